@@ -1,0 +1,49 @@
+//! The limits of the sender. Code and contracts name them, never their numbers.
+
+/// The greatest moment that a call may hand in, in microseconds: 2^50.
+pub const GREATEST_MOMENT: u64 = 1_125_899_906_842_624;
+
+/// The least rate in bit/s. A padding rate may be 0.
+pub const LEAST_RATE: u64 = 1_000;
+
+/// The greatest rate in bit/s.
+pub const GREATEST_RATE: u64 = 10_000_000_000;
+
+/// The fewest bytes of a packet: the fixed RTP header (RFC 3550, section 5.1).
+pub const LEAST_PACKET: u32 = 12;
+
+/// The most bytes of a packet.
+pub const GREATEST_PACKET: u32 = 1_500;
+
+/// The bytes of a padding packet.
+pub const PADDING_PACKET: u32 = 256;
+
+/// The most bytes of a trace: 2^29.
+pub const MOST_TRACE_BYTES: u64 = 536_870_912;
+
+/// The most bytes of a trace and a printed history that are checked: 2^30.
+pub const MOST_CHECK_BYTES: u64 = 1_073_741_824;
+
+/// The most lines of action of a trace.
+pub const MOST_LINES: u32 = 200_000;
+
+/// The most actors of a trace.
+pub const MOST_ACTORS: u32 = 16;
+
+/// The most packets that wait.
+pub const MOST_WAITING: u32 = 4_096;
+
+/// How many of the last sent packets are kept for crediting.
+pub const KEPT_PACKETS: u32 = 32_768;
+
+/// The most sends of one pace call.
+pub const MOST_SENDS: u32 = 64;
+
+/// The most streams of an allocation.
+pub const MOST_STREAMS: u32 = 32;
+
+/// The most probe clusters that wait.
+pub const MOST_CLUSTERS: u32 = 16;
+
+/// The most entries of a journal.
+pub const MOST_ENTRIES: u32 = 200_000;

@@ -164,6 +164,18 @@ impl<T> Sequence<T> {
     }
 }
 
+impl<T: Copy> Sequence<T> {
+    /// Puts the items at the end of another list, which has room for them.
+    pub fn fill(&self, other: &mut Sequence<T>)
+        requires { length self.now.items ≤ other.old.spare }
+        ensures { other.new.items ≡ other.old.items ++ self.now.items }
+    {
+        for item in self.as_slice() {
+            other.put(*item);
+        }
+    }
+}
+
 /// A value that can be made a second time.
 pub trait Duplicate {
     /// The same value once more.

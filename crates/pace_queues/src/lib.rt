@@ -11,3 +11,6 @@ mod ticket;
 
 pub use queues::Queues;
 pub use ticket::{Full, Ticket};
+
+#[cfg(test)]
+mod tests;

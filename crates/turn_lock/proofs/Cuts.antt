@@ -85,34 +85,34 @@ module _ {T C R : Type 0} (all : ℕ) (history : T → List (Entry C R)) (legal 
       let same_waits : waits l ≡ waits v = ap one_if_some ticket in
       let no_wait : waits r ≡ 0 = ap one_if_some no_ticket in
       regroups s k (first ++ r ∷ []) made
-        (let a = total-append waits first (r ∷ []) in let b = total-set waits s.views i v l at in omega arith)
-        (let a = total-append numbers first (r ∷ []) in let b = total-set numbers s.views i v l at in let g : numbers l ≡ numbers v = ap length kept in let o = k.given_out in omega arith)
-        few
-        (λ n. let a = total-append (times n) first (r ∷ []) in let b = total-set (times n) s.views i v l at in let g : times n l ≡ times n v = ap (λ (x : List (ℕ × List (Entry C R))). total (λ p. if p.0 == n then 1 else 0) x) kept in let o = once n in omega arith)
-        (λ j u e.
-          ⊎_elim
-            (λ p. ⊎_elim (λ q. subst (Fits legal k.log k.serving (total waits s.views) made) q.1 fits_l) (λ q. others j u q.0 q.1) (at_set s.views i j l u p))
-            (λ p. subst (Fits legal k.log k.serving (total waits s.views) made) p fits_r)
-            (at_snoc first r u j e))
-        (no_two-append SameTicket flip_ticket first r
-          (no_two-set SameTicket flip_ticket s.views i l k.apart (λ j u ne e q. ne (sym (k.apart i j v u at e (q.0, sym ticket ∙ q.1, q.2)))))
-          (λ u q. absurd (let h : ◌≡◌ {A = Option ℕ} None (Some q.0) = sym no_ticket ∙ q.1 in cc)))
-        (no_two-append BothGive flip_gives first r
-          (no_two-set BothGive flip_gives s.views i l k.one_gives (λ j u ne e q. ne (sym (k.one_gives i j v u at e (gives q.0, q.1)))))
-          (λ u q. q.0 none_given))
-        unmade
-        (λ none_holds j u e. elim (ℕ_discrete j i) [ yes p ↦ ap (λ (x : View C R). x.holds) (same_view s.views i j v u (sym p) at e) ∙ (sym holds ∙ none_holds i l (at_longer first (r ∷ []) i l (set_here s.views i l (at_below s.views i v at)))) | no p ↦ none_holds j u (at_longer first (r ∷ []) j u (set_else s.views i j l p ∙ e)) ])
+      (let a = total-append waits first (r ∷ []) in let b = total-set waits s.views i v l at in omega arith)
+      (let a = total-append numbers first (r ∷ []) in let b = total-set numbers s.views i v l at in let g : numbers l ≡ numbers v = ap length kept in let o = k.given_out in omega arith)
+      few
+      (λ n. let a = total-append (times n) first (r ∷ []) in let b = total-set (times n) s.views i v l at in let g : times n l ≡ times n v = ap (λ (x : List (ℕ × List (Entry C R))). total (λ p. if p.0 == n then 1 else 0) x) kept in let o = once n in omega arith)
+      (λ j u e.
+      ⊎_elim
+      (λ p. ⊎_elim (λ q. subst (Fits legal k.log k.serving (total waits s.views) made) q.1 fits_l) (λ q. others j u q.0 q.1) (at_set s.views i j l u p))
+      (λ p. subst (Fits legal k.log k.serving (total waits s.views) made) p fits_r)
+      (at_snoc first r u j e))
+      (no_two-append SameTicket flip_ticket first r
+      (no_two-set SameTicket flip_ticket s.views i l k.apart (λ j u ne e q. ne (sym (k.apart i j v u at e (q.0, sym ticket ∙ q.1, q.2)))))
+      (λ u q. absurd (let h : ◌≡◌ {A = Option ℕ} None (Some q.0) = sym no_ticket ∙ q.1 in cc)))
+      (no_two-append BothGive flip_gives first r
+      (no_two-set BothGive flip_gives s.views i l k.one_gives (λ j u ne e q. ne (sym (k.one_gives i j v u at e (gives q.0, q.1)))))
+      (λ u q. q.0 none_given))
+      unmade
+      (λ none_holds j u e. elim (ℕ_discrete j i) [ yes p ↦ ap (λ (x : View C R). x.holds) (same_view s.views i j v u (sym p) at e) ∙ (sym holds ∙ none_holds i l (at_longer first (r ∷ []) i l (set_here s.views i l (at_below s.views i v at)))) | no p ↦ none_holds j u (at_longer first (r ∷ []) j u (set_else s.views i j l p ∙ e)) ])
 
   -- a note is made
   pub tells : (id : ℕ) (v : View C R) → Splits Rule id v v (told v)
   tells id v s k at =
       let f = k.each id v at in
       cuts s k id v v (told v) k.made at refl refl refl (λ h. h) refl refl (omega arith) k.few.0
-        (λ n. let o = k.once n in omega arith)
-        f
-        record { in_line = tt; has_number = omega arith; served = λ h. absurd (true≢false (sym h)); is_legal = f.is_legal; seen = f.seen; heard = begins_none k.log; kept = λ j n es e. absurd (some-ne-none (n, es) (sym e)); gives = λ h. absurd (h refl) }
-        (λ j u ne e. k.each j u e)
-        k.unmade
+      (λ n. let o = k.once n in omega arith)
+      f
+      record { in_line = tt; has_number = omega arith; served = λ h. absurd (true≢false (sym h)); is_legal = f.is_legal; seen = f.seen; heard = begins_none k.log; kept = λ j n es e. absurd (some-ne-none (n, es) (sym e)); gives = λ h. absurd (h refl) }
+      (λ j u ne e. k.each j u e)
+      k.unmade
 
   -- a seat is made, with the next number
   pub grows : (id : ℕ) (v : View C R) → v.given ≢ 0 → v.given < all → Splits Rule id v (grown v) (newcomer v)
@@ -121,11 +121,11 @@ module _ {T C R : Type 0} (all : ℕ) (history : T → List (Entry C R)) (legal 
       let made : v.given ≡ k.made = f.gives gives in
       let none_yet : by v.given k.log ≡ [] = k.unmade v.given (omega arith) in
       cuts s k id v (grown v) (newcomer v) (k.made + 1) at refl refl refl (λ _. gives) refl refl (omega arith) (omega arith)
-        (λ n. elim (ℕ_discrete v.given n) [ yes p ↦ (let z = total_zero (times n) s.views (λ j u e. uncounted u.kept n (λ i m es d. (λ q. let b = ((k.each j u e).kept i m es d).1 in absurd (omega arith)))) in let one : times n (newcomer v) ≡ 1 = ap (λ b. cond b 1 0 + 0) (eq-eqb v.given n p) in omega arith) | no p ↦ (let o = k.once n in let zero_of : times n (newcomer v) ≡ 0 = ap (λ b. cond b 1 0 + 0) (ne_eqb v.given n p) in omega arith) ])
-        record { in_line = f.in_line; has_number = f.has_number; served = f.served; is_legal = f.is_legal; seen = f.seen; heard = f.heard; kept = λ j n es e. let h = f.kept j n es e in (h.0, (let b = h.1 in omega arith)); gives = λ _. omega arith }
-        record { in_line = tt; has_number = omega arith; served = λ h. absurd (true≢false (sym h)); is_legal = f.is_legal; seen = f.seen; heard = begins_none k.log; kept = first_kept k.log (k.made + 1) v.given none_yet (omega arith); gives = λ h. absurd (h refl) }
-        (λ j u ne e. let h = k.each j u e in record { in_line = h.in_line; has_number = h.has_number; served = h.served; is_legal = h.is_legal; seen = h.seen; heard = h.heard; kept = λ i n es d. let p = h.kept i n es d in (p.0, (let b = p.1 in omega arith)); gives = λ q. absurd (ne (k.one_gives j id u v e at (q, gives))) })
-        (λ n h. k.unmade n (omega arith))
+      (λ n. elim (ℕ_discrete v.given n) [ yes p ↦ (let z = total_zero (times n) s.views (λ j u e. uncounted u.kept n (λ i m es d. (λ q. let b = ((k.each j u e).kept i m es d).1 in absurd (omega arith)))) in let one : times n (newcomer v) ≡ 1 = ap (λ b. cond b 1 0 + 0) (eq-eqb v.given n p) in omega arith) | no p ↦ (let o = k.once n in let zero_of : times n (newcomer v) ≡ 0 = ap (λ b. cond b 1 0 + 0) (ne_eqb v.given n p) in omega arith) ])
+      record { in_line = f.in_line; has_number = f.has_number; served = f.served; is_legal = f.is_legal; seen = f.seen; heard = f.heard; kept = λ j n es e. let h = f.kept j n es e in (h.0, (let b = h.1 in omega arith)); gives = λ _. omega arith }
+      record { in_line = tt; has_number = omega arith; served = λ h. absurd (true≢false (sym h)); is_legal = f.is_legal; seen = f.seen; heard = begins_none k.log; kept = first_kept k.log (k.made + 1) v.given none_yet (omega arith); gives = λ h. absurd (h refl) }
+      (λ j u ne e. let h = k.each j u e in record { in_line = h.in_line; has_number = h.has_number; served = h.served; is_legal = h.is_legal; seen = h.seen; heard = h.heard; kept = λ i n es d. let p = h.kept i n es d in (p.0, (let b = p.1 in omega arith)); gives = λ q. absurd (ne (k.one_gives j id u v e at (q, gives))) })
+      (λ n h. k.unmade n (omega arith))
 
   -- of two views the first has what both had, and nothing is left of the second
   pub takes_in : (id other : ℕ) (v w : View C R) → w.ticket ≡ None → w.holds ≡ false → Joins Rule id v other w (joined v w) blank
@@ -136,28 +136,28 @@ module _ {T C R : Type 0} (all : ℕ) (history : T → List (Entry C R)) (legal 
       let g = k.each other w at_other in
       let no_wait : waits w ≡ 0 = ap one_if_some no_ticket in
       regroups s k (set mid other blank) k.made
-        (let a = total-set waits mid other w blank at_mid in let b = total-set waits s.views id v (joined v w) at in omega arith)
-        (let a = total-set numbers mid other w blank at_mid in let b = total-set numbers s.views id v (joined v w) at in let l = length-append v.kept w.kept in let o = k.given_out in omega arith)
-        k.few.0
-        (λ n. let a = total-set (times n) mid other w blank at_mid in let b = total-set (times n) s.views id v (joined v w) at in let l = total-append (λ (p : ℕ × List (Entry C R)). if p.0 == n then 1 else 0) v.kept w.kept in let o = k.once n in omega arith)
-        (λ j u e.
-          ⊎_elim
-            (λ p. subst (Fits legal k.log k.serving (total waits s.views) k.made) p.1
-              record { in_line = tt; has_number = omega arith; served = λ h. absurd (true≢false (sym h)); is_legal = k.start; seen = begins_none k.log; heard = begins_none k.log; kept = λ i n es d. absurd (some-ne-none (n, es) (sym d)); gives = λ h. absurd (h refl) })
-            (λ p. ⊎_elim
-              (λ q. subst (Fits legal k.log k.serving (total waits s.views) k.made) q.1
-                record { in_line = f.in_line; has_number = (let h = f.has_number in let l = length-append v.kept w.kept in omega arith); served = f.served; is_legal = f.is_legal; seen = f.seen; heard = g.seen; kept = joined_kept k.log k.made v.kept w.kept f.kept g.kept; gives = λ h. absurd (h refl) })
-              (λ q. k.each j u q.1)
-              (at_set s.views id j (joined v w) u p.1))
-            (at_set mid other j blank u e))
-        (no_two-set SameTicket flip_ticket mid other blank
-          (no_two-set SameTicket flip_ticket s.views id (joined v w) k.apart (λ j u n e q. n (sym (k.apart id j v u at e q))))
-          (λ j u n e q. absurd (let h = q.1 in cc)))
-        (no_two-set BothGive flip_gives mid other blank
-          (no_two-set BothGive flip_gives s.views id (joined v w) k.one_gives (λ j u n e q. q.0 refl))
-          (λ j u n e q. q.0 refl))
-        k.unmade
-        (λ none_holds j u e. elim (ℕ_discrete j other) [ yes p ↦ ap (λ (x : View C R). x.holds) (same_view s.views other j w u (sym p) at_other e) ∙ idle | no p ↦ elim (ℕ_discrete j id) [ yes q ↦ ap (λ (x : View C R). x.holds) (same_view s.views id j v u (sym q) at e) ∙ none_holds id (joined v w) (set_else mid other id blank (λ r. ne (sym r)) ∙ set_here s.views id (joined v w) (at_below s.views id v at)) | no q ↦ none_holds j u (set_else mid other j blank p ∙ (set_else s.views id j (joined v w) q ∙ e)) ] ])
+      (let a = total-set waits mid other w blank at_mid in let b = total-set waits s.views id v (joined v w) at in omega arith)
+      (let a = total-set numbers mid other w blank at_mid in let b = total-set numbers s.views id v (joined v w) at in let l = length-append v.kept w.kept in let o = k.given_out in omega arith)
+      k.few.0
+      (λ n. let a = total-set (times n) mid other w blank at_mid in let b = total-set (times n) s.views id v (joined v w) at in let l = total-append (λ (p : ℕ × List (Entry C R)). if p.0 == n then 1 else 0) v.kept w.kept in let o = k.once n in omega arith)
+      (λ j u e.
+      ⊎_elim
+      (λ p. subst (Fits legal k.log k.serving (total waits s.views) k.made) p.1
+      record { in_line = tt; has_number = omega arith; served = λ h. absurd (true≢false (sym h)); is_legal = k.start; seen = begins_none k.log; heard = begins_none k.log; kept = λ i n es d. absurd (some-ne-none (n, es) (sym d)); gives = λ h. absurd (h refl) })
+      (λ p. ⊎_elim
+      (λ q. subst (Fits legal k.log k.serving (total waits s.views) k.made) q.1
+      record { in_line = f.in_line; has_number = (let h = f.has_number in let l = length-append v.kept w.kept in omega arith); served = f.served; is_legal = f.is_legal; seen = f.seen; heard = g.seen; kept = joined_kept k.log k.made v.kept w.kept f.kept g.kept; gives = λ h. absurd (h refl) })
+      (λ q. k.each j u q.1)
+      (at_set s.views id j (joined v w) u p.1))
+      (at_set mid other j blank u e))
+      (no_two-set SameTicket flip_ticket mid other blank
+      (no_two-set SameTicket flip_ticket s.views id (joined v w) k.apart (λ j u n e q. n (sym (k.apart id j v u at e q))))
+      (λ j u n e q. absurd (let h = q.1 in cc)))
+      (no_two-set BothGive flip_gives mid other blank
+      (no_two-set BothGive flip_gives s.views id (joined v w) k.one_gives (λ j u n e q. q.0 refl))
+      (λ j u n e q. q.0 refl))
+      k.unmade
+      (λ none_holds j u e. elim (ℕ_discrete j other) [ yes p ↦ ap (λ (x : View C R). x.holds) (same_view s.views other j w u (sym p) at_other e) ∙ idle | no p ↦ elim (ℕ_discrete j id) [ yes q ↦ ap (λ (x : View C R). x.holds) (same_view s.views id j v u (sym q) at e) ∙ none_holds id (joined v w) (set_else mid other id blank (λ r. ne (sym r)) ∙ set_here s.views id (joined v w) (at_below s.views id v at)) | no q ↦ none_holds j u (set_else mid other j blank p ∙ (set_else s.views id j (joined v w) q ∙ e)) ] ])
 
   -- a view beside one that keeps every number keeps none
   none_kept : (s : State (Option T) (View C R)) (k : Rule s) (id : ℕ) (v : View C R) → get_elem? s.views id ≡ some v → ((n : ℕ) → n < all → (j : ℕ) × (es : List (Entry C R)) × (get_elem? v.kept j ≡ some (n, es)))

@@ -149,17 +149,20 @@ module _ {T C R : Type 0} (all : ℕ) (history : T → List (Entry C R)) (legal 
       let f = k.each id m.0 at in
       let z : waits m.0 ≡ 0 = ap one_if_some idle.0 in
       let c : total waits (set s.views id w) ≡ total waits s.views + 1 = (let h = total-set waits s.views id m.0 w at in omega arith) in
-      let found = slice_index s.words 1 in
-      (w, keeps, tt,
-       changes s k id m.0 w (slice_set s.words 1 ((found + 1) % 2 ^ 64)) s.homes k.serving at refl refl
-         (wide_word s k 1 _) (beside_word s k 1 0 _ (λ e. omega arith) ∙ k.shown)
-         (word_here s.words 1 _ k.wide (omega arith) ∙ (let h = k.next in omega arith))
-         (beside_word s k 1 2 _ (λ e. omega arith) ∙ k.now)
-         record { in_line = (omega arith, omega arith); has_number = numbered; served = λ h. absurd (true≢false (sym h ∙ idle.1)); is_legal = f.is_legal; seen = f.seen; heard = f.heard; kept = f.kept; gives = f.gives }
-         (λ j u ne e. let g = k.each j u e in (line_longer k.serving _ _ u.ticket (omega arith) g.in_line, λ h. (g.served h).0))
-         (λ j u ne e q. let p = line_at k.serving _ u.ticket q.0 (k.each j u e).in_line q.2 in let same : t ≡ q.0 = (let h = q.1 in cc) in absurd (omega arith))
-         (home_stays s k id m.0 w at idle.1),
-       (t, sym k.next, refl))
+      let found = slice_index s.words 1 in (
+        w,
+        keeps,
+        tt,
+        changes s k id m.0 w (slice_set s.words 1 ((found + 1) % 2 ^ 64)) s.homes k.serving at refl refl
+            (wide_word s k 1 _) (beside_word s k 1 0 _ (λ e. omega arith) ∙ k.shown)
+            (word_here s.words 1 _ k.wide (omega arith) ∙ (let h = k.next in omega arith))
+            (beside_word s k 1 2 _ (λ e. omega arith) ∙ k.now)
+            record { in_line = (omega arith, omega arith); has_number = numbered; served = λ h. absurd (true≢false (sym h ∙ idle.1)); is_legal = f.is_legal; seen = f.seen; heard = f.heard; kept = f.kept; gives = f.gives }
+            (λ j u ne e. let g = k.each j u e in (line_longer k.serving _ _ u.ticket (omega arith) g.in_line, λ h. (g.served h).0))
+            (λ j u ne e q. let p = line_at k.serving _ u.ticket q.0 (k.each j u e).in_line q.2 in let same : t ≡ q.0 = (let h = q.1 in cc) in absurd (omega arith))
+            (home_stays s k id m.0 w at idle.1),
+        (t, sym k.next, refl),
+      )
 
   -- a step that leaves its word and the view as they are
   pub unmoved : (s : State (Option T) (View C R)) (i id : ℕ) (v : View C R) → Rule s → i < 3 → get_elem? s.views id ≡ some v → Rule record { words = slice_set s.words i (slice_index s.words i); homes = s.homes; views = slice_set s.views id v }
@@ -189,17 +192,20 @@ module _ {T C R : Type 0} (all : ℕ) (history : T → List (Entry C R)) (legal 
       let here = k.home (nobody_holds s k id m.0 at mine waiting.1) in
       let x = here.0 in
       let w : View C R = served (history x) m.0 in
-      let c : total waits (set s.views id w) ≡ total waits s.views = (let h = total-set waits s.views id m.0 w at in omega arith) in
-      (w, takes 0 (Some x), here.1,
-       changes s k id m.0 w (slice_set s.words 2 (slice_index s.words 2)) (slice_set s.homes 0 none) k.serving at refl refl
-         (wide_word s k 2 _) (beside_word s k 2 0 _ (λ e. omega arith) ∙ k.shown)
-         (beside_word s k 2 1 _ (λ e. omega arith) ∙ (let h = k.next in omega arith))
-         (word_here s.words 2 _ k.wide (omega arith) ∙ k.now)
-         record { in_line = line_longer k.serving _ _ m.0.ticket (omega arith) f.in_line; has_number = f.has_number; served = λ _. (mine, here.2); is_legal = subst legal (sym here.2) k.is_legal; seen = subst (BeginsWith k.log) (sym here.2) (begins_all k.log); heard = f.heard; kept = f.kept; gives = f.gives }
-         (λ j u ne e. let g = k.each j u e in (line_longer k.serving _ _ u.ticket (omega arith) g.in_line, λ h. (g.served h).0))
-         (λ j u ne e q. ne (sym (k.apart id j m.0 u at e q)))
-         (λ none_holds. absurd (true≢false (none_holds id w (set_here s.views id w (at_below s.views id m.0 at))))),
-       λ u e. (λ _. (x, refl, subst (λ h. BeginsWith h m.0.seen) (sym here.2) f.seen, subst legal (sym here.2) k.is_legal, subst (λ h. Owns h m.0.kept) (sym here.2) (owns legal k.log k.serving _ k.made m.0 f)), λ n. absurd (n (let same : t ≡ u = (let h = waiting.0 in cc) in ap (λ y. y % 2 ^ 64) (sym same) ∙ p))))
+      let c : total waits (set s.views id w) ≡ total waits s.views = (let h = total-set waits s.views id m.0 w at in omega arith) in (
+        w,
+        takes 0 (Some x),
+        here.1,
+        changes s k id m.0 w (slice_set s.words 2 (slice_index s.words 2)) (slice_set s.homes 0 none) k.serving at refl refl
+            (wide_word s k 2 _) (beside_word s k 2 0 _ (λ e. omega arith) ∙ k.shown)
+            (beside_word s k 2 1 _ (λ e. omega arith) ∙ (let h = k.next in omega arith))
+            (word_here s.words 2 _ k.wide (omega arith) ∙ k.now)
+            record { in_line = line_longer k.serving _ _ m.0.ticket (omega arith) f.in_line; has_number = f.has_number; served = λ _. (mine, here.2); is_legal = subst legal (sym here.2) k.is_legal; seen = subst (BeginsWith k.log) (sym here.2) (begins_all k.log); heard = f.heard; kept = f.kept; gives = f.gives }
+            (λ j u ne e. let g = k.each j u e in (line_longer k.serving _ _ u.ticket (omega arith) g.in_line, λ h. (g.served h).0))
+            (λ j u ne e q. ne (sym (k.apart id j m.0 u at e q)))
+            (λ none_holds. absurd (true≢false (none_holds id w (set_here s.views id w (at_below s.views id m.0 at))))),
+        λ u e. (λ _. (x, refl, subst (λ h. BeginsWith h m.0.seen) (sym here.2) f.seen, subst legal (sym here.2) k.is_legal, subst (λ h. Owns h m.0.kept) (sym here.2) (owns legal k.log k.serving _ k.made m.0 f)), λ n. absurd (n (let same : t ≡ u = (let h = waiting.0 in cc) in ap (λ y. y % 2 ^ 64) (sym same) ∙ p))),
+      )
 
   pub looks : (slots id : ℕ) (m : Me (Option T) (View C R)) (t : ℕ) → IsWaiting t m → Allows Rule slots id m 2 (λ n. n) (look history legal m)
   looks slots id m t waiting s k short at small = looks_by slots id m t waiting s k at (ℕ_discrete (t % 2 ^ 64) (slice_index s.words 2))
@@ -210,17 +216,20 @@ module _ {T C R : Type 0} (all : ℕ) (history : T → List (Entry C R)) (legal 
       let f = k.each id v at in
       let mine = f.served holds in
       let w : View C R = leaves v in
-      let c : total waits s.views ≡ total waits (set s.views id w) + 1 = (let h = total-set waits s.views id v w at in let one : waits v ≡ 1 = ap one_if_some mine.0 in omega arith) in
-      (w, gives, tt,
-       changes s k id v w (slice_set s.words 2 ((slice_index s.words 2 + 1) % 2 ^ 64)) (slice_set s.homes 0 (some (Some x))) (k.serving + 1) at refl refl
-         (wide_word s k 2 _) (beside_word s k 2 0 _ (λ e. omega arith) ∙ k.shown)
-         (beside_word s k 2 1 _ (λ e. omega arith) ∙ (let h = k.next in let same : k.serving + total waits s.views ≡ k.serving + 1 + total waits (set s.views id w) = omega arith in h ∙ ap (λ n. n % 2 ^ 64) same))
-         (word_here s.words 2 _ k.wide (omega arith) ∙ (let h = k.now in omega arith))
-         record { in_line = tt; has_number = omega arith; served = λ h. absurd (true≢false (sym h)); is_legal = f.is_legal; seen = f.seen; heard = f.heard; kept = f.kept; gives = f.gives }
-         (λ j u ne e. let g = k.each j u e in let other : u.ticket ≡ Some k.serving → ⊥ = (λ p. ne (k.apart j id u v e at (k.serving, p, mine.0))) in (line_behind k.serving _ _ u.ticket c other g.in_line, λ h. absurd (other (g.served h).0)))
-         (λ j u ne e q. absurd (let h = q.1 in cc))
-         (λ none_holds. (x, set_here s.homes 0 (some (Some x)) (omega arith), whole ∙ mine.1)),
-       refl)
+      let c : total waits s.views ≡ total waits (set s.views id w) + 1 = (let h = total-set waits s.views id v w at in let one : waits v ≡ 1 = ap one_if_some mine.0 in omega arith) in (
+        w,
+        gives,
+        tt,
+        changes s k id v w (slice_set s.words 2 ((slice_index s.words 2 + 1) % 2 ^ 64)) (slice_set s.homes 0 (some (Some x))) (k.serving + 1) at refl refl
+            (wide_word s k 2 _) (beside_word s k 2 0 _ (λ e. omega arith) ∙ k.shown)
+            (beside_word s k 2 1 _ (λ e. omega arith) ∙ (let h = k.next in let same : k.serving + total waits s.views ≡ k.serving + 1 + total waits (set s.views id w) = omega arith in h ∙ ap (λ n. n % 2 ^ 64) same))
+            (word_here s.words 2 _ k.wide (omega arith) ∙ (let h = k.now in omega arith))
+            record { in_line = tt; has_number = omega arith; served = λ h. absurd (true≢false (sym h)); is_legal = f.is_legal; seen = f.seen; heard = f.heard; kept = f.kept; gives = f.gives }
+            (λ j u ne e. let g = k.each j u e in let other : u.ticket ≡ Some k.serving → ⊥ = (λ p. ne (k.apart j id u v e at (k.serving, p, mine.0))) in (line_behind k.serving _ _ u.ticket c other g.in_line, λ h. absurd (other (g.served h).0)))
+            (λ j u ne e q. absurd (let h = q.1 in cc))
+            (λ none_holds. (x, set_here s.homes 0 (some (Some x)) (omega arith), whole ∙ mine.1)),
+        refl,
+      )
 
   pub passes : (slots id : ℕ) (m : Me (Option T) (View C R)) (x : T) → m.1 ≡ (0, Some x) ∷ [] → m.0.holds ≡ true → history x ≡ m.0.seen → 1 ≤ slots → Allows Rule slots id m 2 (λ n. (n + 1) % 2 ^ 64) (λ _. pass_on m)
   passes slots id m x e holds whole room = subst (λ l. Allows Rule slots id (m.0, l) 2 (λ n. (n + 1) % 2 ^ 64) (λ _. pass_on (m.0, l))) (sym e) (passes_with slots id m.0 x holds whole room)
@@ -230,17 +239,20 @@ module _ {T C R : Type 0} (all : ℕ) (history : T → List (Entry C R)) (legal 
   sees slots id m idle s k short at small =
       let f = k.each id m.0 at in
       let w : View C R = reads k.log m.0 in
-      let c : total waits (set s.views id w) ≡ total waits s.views = (let h = total-set waits s.views id m.0 w at in omega arith) in
-      (w, keeps, tt,
-       changes s k id m.0 w (slice_set s.words 0 (slice_index s.words 0)) s.homes k.serving at refl refl
-         (wide_word s k 0 _) (word_here s.words 0 _ k.wide (omega arith) ∙ k.shown)
-         (beside_word s k 0 1 _ (λ e. omega arith) ∙ (let h = k.next in omega arith))
-         (beside_word s k 0 2 _ (λ e. omega arith) ∙ k.now)
-         record { in_line = line_longer k.serving _ _ m.0.ticket (omega arith) f.in_line; has_number = f.has_number; served = λ h. ((f.served h).0, refl); is_legal = k.is_legal; seen = begins_all k.log; heard = begins_none k.log; kept = f.kept; gives = f.gives }
-         (λ j u ne e. let g = k.each j u e in (line_longer k.serving _ _ u.ticket (omega arith) g.in_line, λ h. (g.served h).0))
-         (λ j u ne e q. ne (sym (k.apart id j m.0 u at e q)))
-         (home_stays s k id m.0 w at idle.1),
-       (k.log, refl, k.shown, f.seen, f.heard, k.is_legal, owns legal k.log k.serving _ k.made m.0 f))
+      let c : total waits (set s.views id w) ≡ total waits s.views = (let h = total-set waits s.views id m.0 w at in omega arith) in (
+        w,
+        keeps,
+        tt,
+        changes s k id m.0 w (slice_set s.words 0 (slice_index s.words 0)) s.homes k.serving at refl refl
+            (wide_word s k 0 _) (word_here s.words 0 _ k.wide (omega arith) ∙ k.shown)
+            (beside_word s k 0 1 _ (λ e. omega arith) ∙ (let h = k.next in omega arith))
+            (beside_word s k 0 2 _ (λ e. omega arith) ∙ k.now)
+            record { in_line = line_longer k.serving _ _ m.0.ticket (omega arith) f.in_line; has_number = f.has_number; served = λ h. ((f.served h).0, refl); is_legal = k.is_legal; seen = begins_all k.log; heard = begins_none k.log; kept = f.kept; gives = f.gives }
+            (λ j u ne e. let g = k.each j u e in (line_longer k.serving _ _ u.ticket (omega arith) g.in_line, λ h. (g.served h).0))
+            (λ j u ne e q. ne (sym (k.apart id j m.0 u at e q)))
+            (home_stays s k id m.0 w at idle.1),
+        (k.log, refl, k.shown, f.seen, f.heard, k.is_legal, owns legal k.log k.serving _ k.made m.0 f),
+      )
 
   commits_keeps : (id number b : ℕ) (m : Me (Option T) (View C R)) (x : T) (e : Entry C R) → Settles history legal board number b m x e → (s : State (Option T) (View C R)) (k : Rule s) → get_elem? s.views id ≡ some m.0
       → Rule record { words = slice_set s.words 0 b; homes = s.homes; views = set s.views id (adds e m.0) }
@@ -270,33 +282,33 @@ module _ {T C R : Type 0} (all : ℕ) (history : T → List (Entry C R)) (legal 
         once = λ n. (let h = total-set (times n) s.views id v w at in let q = times_stay e n v.kept in let o = k.once n in omega arith);
         each = λ j u d.
             ⊎_elim
-              (λ p. subst (Fits legal (k.log ++ e ∷ []) k.serving (total waits (set s.views id w)) k.made) p.1
-                record {
-                  in_line = line_longer k.serving _ _ v.ticket (omega arith) f.in_line;
-                  has_number = (let h = f.has_number in let n = numbers_stay e v.kept in omega arith);
-                  served = λ _. (mine.0, ap (λ l. l ++ e ∷ []) mine.1);
-                  is_legal = subst legal g.entry g.is_legal;
-                  seen = subst (λ l. BeginsWith (k.log ++ e ∷ []) (l ++ e ∷ [])) (sym mine.1) (begins_all (k.log ++ e ∷ []));
-                  heard = begins_more k.log v.heard (e ∷ []) f.heard;
-                  kept = subst (λ l. Keeps (k.log ++ e ∷ []) k.made (add_own e l)) (sym kept)
-                    (own_kept k.log e k.made (number, g.numbered.0) g.numbered.1 g.own (subst (Keeps k.log k.made) kept f.kept) (subst (λ l. total (one_at number) l ≤ 1) kept (subst (λ n. times n v ≤ 1) g.own once_here)));
-                  gives = f.gives;
-                })
-              (λ p.
-                let h = k.each j u p.1 in
-                let alone : u.holds ≡ true → ⊥ = (λ q. p.0 (k.apart j id u v p.1 at (k.serving, (h.served q).0, mine.0))) in
-                let none_of : times e.caller u ≡ 0 = (let two = terms_le (times e.caller) s.views j id u v p.0 p.1 at in let o = k.once e.caller in omega arith) in
-                record {
-                  in_line = line_longer k.serving _ _ u.ticket (omega arith) h.in_line;
-                  has_number = h.has_number;
-                  served = λ q. absurd (alone q);
-                  is_legal = h.is_legal;
-                  seen = begins_more k.log u.seen (e ∷ []) h.seen;
-                  heard = begins_more k.log u.heard (e ∷ []) h.heard;
-                  kept = other_kept k.log e k.made u.kept none_of h.kept;
-                  gives = h.gives;
-                })
-              (at_set s.views id j w u d);
+            (λ p. subst (Fits legal (k.log ++ e ∷ []) k.serving (total waits (set s.views id w)) k.made) p.1
+            record {
+              in_line = line_longer k.serving _ _ v.ticket (omega arith) f.in_line;
+              has_number = (let h = f.has_number in let n = numbers_stay e v.kept in omega arith);
+              served = λ _. (mine.0, ap (λ l. l ++ e ∷ []) mine.1);
+              is_legal = subst legal g.entry g.is_legal;
+              seen = subst (λ l. BeginsWith (k.log ++ e ∷ []) (l ++ e ∷ [])) (sym mine.1) (begins_all (k.log ++ e ∷ []));
+              heard = begins_more k.log v.heard (e ∷ []) f.heard;
+              kept = subst (λ l. Keeps (k.log ++ e ∷ []) k.made (add_own e l)) (sym kept)
+                  (own_kept k.log e k.made (number, g.numbered.0) g.numbered.1 g.own (subst (Keeps k.log k.made) kept f.kept) (subst (λ l. total (one_at number) l ≤ 1) kept (subst (λ n. times n v ≤ 1) g.own once_here)));
+              gives = f.gives;
+            })
+            (λ p.
+            let h = k.each j u p.1 in
+            let alone : u.holds ≡ true → ⊥ = (λ q. p.0 (k.apart j id u v p.1 at (k.serving, (h.served q).0, mine.0))) in
+            let none_of : times e.caller u ≡ 0 = (let two = terms_le (times e.caller) s.views j id u v p.0 p.1 at in let o = k.once e.caller in omega arith) in
+            record {
+              in_line = line_longer k.serving _ _ u.ticket (omega arith) h.in_line;
+              has_number = h.has_number;
+              served = λ q. absurd (alone q);
+              is_legal = h.is_legal;
+              seen = begins_more k.log u.seen (e ∷ []) h.seen;
+              heard = begins_more k.log u.heard (e ∷ []) h.heard;
+              kept = other_kept k.log e k.made u.kept none_of h.kept;
+              gives = h.gives;
+            })
+            (at_set s.views id j w u d);
         apart = no_two-set SameTicket flip_ticket s.views id w k.apart (λ j u ne d q. ne (sym (k.apart id j v u at d q)));
         one_gives = no_two-set BothGive flip_gives s.views id w k.one_gives (λ j u ne d q. ne (sym (k.one_gives id j v u at d q)));
         unmade = λ n h. by-other n k.log e (λ p. omega arith) ∙ k.unmade n h;
@@ -305,6 +317,10 @@ module _ {T C R : Type 0} (all : ℕ) (history : T → List (Entry C R)) (legal 
 
   -- the step that puts the longer history's board up
   pub commits : (slots id number b : ℕ) (m : Me (Option T) (View C R)) (x : T) (e : Entry C R) → Settles history legal board number b m x e → Allows Rule slots id m 0 (λ _. b) (λ _. commit history m)
-  commits slots id number b m x e g s k short at small =
-      (adds e m.0, keeps, tt, commits_keeps id number b m x e g s k at,
-       λ y d p q. let same : x ≡ y = (same_slot m.1 x y g.with_it p) in let last = same_from_push m.0.seen m.0.seen e d (sym g.entry ∙ (ap history same ∙ q)) in ap (λ (z : Entry C R). (adds z m.0, m.1)) last.1)
+  commits slots id number b m x e g s k short at small = (
+    adds e m.0,
+    keeps,
+    tt,
+    commits_keeps id number b m x e g s k at,
+    λ y d p q. let same : x ≡ y = (same_slot m.1 x y g.with_it p) in let last = same_from_push m.0.seen m.0.seen e d (sym g.entry ∙ (ap history same ∙ q)) in ap (λ (z : Entry C R). (adds z m.0, m.1)) last.1,
+  )

@@ -3,3 +3,4 @@ pub mod Keeps
 pub mod Cuts
 pub mod Calls
 pub mod Lists
+pub mod Adding

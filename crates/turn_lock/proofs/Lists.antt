@@ -36,9 +36,9 @@ module _ {C R : Type 0} where
       → All (KeepsSeat m.0) done → All (KeepsSeat n.0) (seat_is of number o.0 ∷ done)
   keeps_more {S} legal done m o n of number a numbered all =
       subst (λ (l : Me S (View C R)). All (KeepsSeat l.0) (seat_is of number o.0 ∷ done)) (sym a.1)
-        (All-cons (KeepsSeat (reads a.0 (joined m.0 o.0))) (seat_is of number o.0) done
-          (a.3, at_second m.0.kept o.0.kept 0 (number, own_of o.0.kept) (kept_first number o.0 numbered))
-          (All-weaker (KeepsSeat m.0) (KeepsSeat (reads a.0 (joined m.0 o.0))) (λ s k. (begins_through a.0 m.0.seen s.seen a.2 k.0, (k.1.0, at_longer m.0.kept o.0.kept k.1.0 (s.number, s.mine) k.1.1))) done all))
+      (All-cons (KeepsSeat (reads a.0 (joined m.0 o.0))) (seat_is of number o.0) done
+      (a.3, at_second m.0.kept o.0.kept 0 (number, own_of o.0.kept) (kept_first number o.0 numbered))
+      (All-weaker (KeepsSeat m.0) (KeepsSeat (reads a.0 (joined m.0 o.0))) (λ s k. (begins_through a.0 m.0.seen s.seen a.2 k.0, (k.1.0, at_longer m.0.kept o.0.kept k.1.0 (s.number, s.mine) k.1.1))) done all))
 
   -- no seat is left
   pub all_done : (P : SeatIs C R → Type 0) (seats left done : List (SeatIs C R)) → seats ≡ left ++ done → left ≡ [] → All P done → All P seats

@@ -52,9 +52,9 @@ module _ {A : Type 0} (Q : A → A → Type 0) (flip : (v w : A) → Q v w → Q
   pub no_two-set : NoTwo Q l → ((j : ℕ) (u : A) → j ≢ i → get_elem? l j ≡ some u → Q a u → ⊥) → NoTwo Q (set l i a)
   no_two-set two alone j k v w e d q =
       ⊎_elim
-        (λ p. ⊎_elim (λ r. p.0 ∙ sym r.0) (λ r. absurd (alone k w r.0 r.1 (subst (λ x. Q x w) (sym p.1) q))) (at_set l i k a w d))
-        (λ p. ⊎_elim (λ r. absurd (alone j v p.0 p.1 (subst (λ x. Q x v) (sym r.1) (flip v w q)))) (λ r. two j k v w p.1 r.1 q) (at_set l i k a w d))
-        (at_set l i j a v e)
+      (λ p. ⊎_elim (λ r. p.0 ∙ sym r.0) (λ r. absurd (alone k w r.0 r.1 (subst (λ x. Q x w) (sym p.1) q))) (at_set l i k a w d))
+      (λ p. ⊎_elim (λ r. absurd (alone j v p.0 p.1 (subst (λ x. Q x v) (sym r.1) (flip v w q)))) (λ r. two j k v w p.1 r.1 q) (at_set l i k a w d))
+      (at_set l i j a v e)
 
 module _ {C R : Type 0} where
   pub begins_all : (log : List (Entry C R)) → BeginsWith log log
@@ -97,9 +97,9 @@ word_here ws i n e lt = let h : i < length ws = omega arith in get_or-set_same w
 pub no_two-append : {A : Type 0} (Q : A → A → Type 0) (flip : (v w : A) → Q v w → Q w v) (l : List A) (a : A) → NoTwo Q l → ((u : A) → Q a u → ⊥) → NoTwo Q (l ++ a ∷ [])
 no_two-append Q flip l a two alone i j v w e d q =
     ⊎_elim
-      (λ p. ⊎_elim (λ r. two i j v w p r q) (λ r. absurd (alone v (subst (λ x. Q x v) (sym r) (flip v w q)))) (at_snoc l a w j d))
-      (λ p. absurd (alone w (subst (λ x. Q x w) (sym p) q)))
-      (at_snoc l a v i e)
+    (λ p. ⊎_elim (λ r. two i j v w p r q) (λ r. absurd (alone v (subst (λ x. Q x v) (sym r) (flip v w q)))) (at_snoc l a w j d))
+    (λ p. absurd (alone w (subst (λ x. Q x w) (sym p) q)))
+    (at_snoc l a v i e)
 
 pub total_zero : {A : Type 0} (f : A → ℕ) (l : List A) → ((i : ℕ) (v : A) → get_elem? l i ≡ some v → f v ≡ 0) → total f l ≡ 0
 total_zero f [] h = refl

@@ -1,11 +1,10 @@
 // The rule of the lock, and what each kind of step on it tells, for any object.
 ghost use Rattle.turn_lock.specs.Plays.{draw, look, commit, pass_on, read, blank, grown, newcomer, told, joined};
 
-use atomic_table::{Join, Play, Split, TableRule};
-use std::marker::PhantomData;
-
 use crate::object::Object;
 use crate::view::View;
+use atomic_table::{Join, Play, Split, TableRule};
+use std::marker::PhantomData;
 
 /// The rule of a lock over `T`. Its key is the number of seats.
 pub(crate) struct Law<T> {

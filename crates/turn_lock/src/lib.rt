@@ -14,3 +14,8 @@ pub use object::Object;
 pub use seat::{Note, SEATS, Seat, SeatList};
 pub use turn::Turn;
 pub use view::View;
+
+#[cfg(test)]
+mod adder;
+#[cfg(test)]
+mod tests;

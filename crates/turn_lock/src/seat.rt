@@ -1,9 +1,8 @@
 //! Seats and notes.
-use gcc_units::Sequence;
-use std::marker::Model;
-
 use crate::object::Object;
 use crate::steps::Place;
+use gcc_units::Sequence;
+use std::marker::Model;
 
 /// The most seats of a turn.
 pub const SEATS: u32 = 16;

@@ -6,15 +6,14 @@ ghost use Rattle.turn_lock.specs.declared.entry.Entry.{Entry};
 ghost use Rattle.turn_lock.specs.Rule.{Lawful, numbers};
 ghost use Rattle.turn_lock.specs.Plays.{Idle, Settles, Claimed, Takes, draw, look, adds, leaves, with_ticket, read, giver, grown, newcomer, told, Absorbs, Ends};
 
+use crate::law::{Commit, Draw, Grow, Law, Look, PassOn, Read, TakeIn, Tell};
+use crate::object::Object;
+use crate::view::View;
 use atomic_table::{Refused, Table};
 use gcc_units::NoMemory;
 use std::alloc::{AllocFailed, Global};
 use std::sync::Wait;
 use std::thread;
-
-use crate::law::{Commit, Draw, Grow, Law, Look, PassOn, Read, TakeIn, Tell};
-use crate::object::Object;
-use crate::view::View;
 
 /// The word with the board.
 const BOARD: usize = 0;
@@ -243,7 +242,9 @@ fn only<T>(refused: Refused<Option<T>, Global>) -> T
     ensures { refused.slots.items ≡ Some result ∷ [] }
 {
     let Refused { mut slots } = refused;
-    let Some(Some(value)) = slots.pop() else { unreachable!() };
+    let Some(Some(value)) = slots.pop() else {
+        unreachable!()
+    };
     slots.destroy_empty();
     value
 }

@@ -5,14 +5,13 @@ ghost use Rattle.std.specs.List.{All};
 ghost use Rattle.turn_lock.specs.Rule.{by, BeginsWith};
 ghost use Rattle.turn_lock.specs.Seats.{Adds, HasEvery, new_seats};
 
+use crate::object::Object;
+use crate::seat::{Note, SEATS, Seat, SeatList};
+use crate::steps::Steps;
 use gcc_units::{NoMemory, Sequence};
 use std::alloc::Global;
 use std::marker::Model;
 use std::sync::Wait;
-
-use crate::object::Object;
-use crate::seat::{Note, SEATS, Seat, SeatList};
-use crate::steps::Steps;
 
 /// A lock over an object. Callers wait in line, each on a seat of its own.
 #[derive(Drop)]
@@ -35,11 +34,7 @@ impl<T: Object> Model for Turn<T> {
 impl<T: Object> Turn<T> {
     /// A turn for a value with no history yet, and its seats: the k-th of the list has the number k, has seen the empty
     /// history and has no entries. At `NoMemory` the value comes back.
-    pub fn new(
-        alloc: Global,
-        value: T,
-        seats: u32,
-    ) -> Result<(Turn<T>, SeatList<T>), (NoMemory, T)>
+    pub fn new(alloc: Global, value: T, seats: u32) -> Result<(Turn<T>, SeatList<T>), (NoMemory, T)>
         requires some { 1 ≤ seats }
         requires most { seats ≤ SEATS }
         requires value { T.history value ≡ [] }
@@ -160,9 +155,15 @@ impl<T: Object> Turn<T> {
         let Some(last) = seats.pop() else {
             unreachable!();
         };
-        let Seat { mut place, number: _ } = last;
+        let Seat {
+            mut place,
+            number: _,
+        } = last;
         while let Some(seat) = seats.pop() {
-            let Seat { place: other, number: _ } = seat;
+            let Seat {
+                place: other,
+                number: _,
+            } = seat;
             self.steps.absorb(&mut place, other);
         }
         let Turn { steps } = self;

@@ -1,6 +1,5 @@
-use std::collections::LinkedList;
-
 use crate::entry::Entry;
+use std::collections::LinkedList;
 
 /// What a seat or a note knows. No value of it is made: it stands in contracts and proofs alone.
 pub struct View<C, R> {

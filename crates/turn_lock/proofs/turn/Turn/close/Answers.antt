@@ -29,9 +29,11 @@ loop-seat-preserved g c = let i = c.loop-seat.invariant in
       of = c.absorb.ensures.of ∙ i.of;
       idle = still_idle legal old other new a i.idle;
       rest = p.0;
-      done = (c.in-Some-pop.seat ∷ i.done.0,
+      done = (
+        c.in-Some-pop.seat ∷ i.done.0,
         i.done.1 ∙ (ap (λ l. l ++ i.done.0) c.in-Some-pop.ensures.some ∙ append_assoc c.pop-in-loop-seat.new.self.items (c.in-Some-pop.seat ∷ []) i.done.0),
-        subst (λ s. All (KeepsSeat new.0) (s ∷ i.done.0)) c.seat.view_is (keeps_more legal i.done.0 old other new c.seat.inside.place.table_id c.seat.inside.number a c.seat.invariant.1 i.done.2));
+        subst (λ s. All (KeepsSeat new.0) (s ∷ i.done.0)) c.seat.view_is (keeps_more legal i.done.0 old other new c.seat.inside.place.table_id c.seat.inside.number a c.seat.invariant.1 i.done.2),
+      );
     }
 
 pub end-value-requires-clause-every : goal.end-value-requires-clause-every

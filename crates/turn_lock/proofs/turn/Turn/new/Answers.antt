@@ -23,4 +23,4 @@ pub returns-clause-seats : goal.returns-clause-seats
 returns-clause-seats g c = let i = c.loop-number.invariant in let f = c.loop-number.first in let id = c.in_ok-steps.steps.table.shared.table_id in
     ap (λ l. l.items) c.from_vec.ensures
     ∙ all_made id c.loop-number.number c.args.seats c.loop-number.list.items c.in_front-list.result.items (seat_is f.table_id 0 f.me.0) c.in_front-list.ensures i.items
-        (is_first id f.table_id c.loop-number.number f.me i.of i.me) (omega arith) c.requires.some
+    (is_first id f.table_id c.loop-number.number f.me i.of i.me) (omega arith) c.requires.some

@@ -4,7 +4,7 @@ use Rattle.atomic_table.specs.Table.{Me}
 use Rattle.turn_lock.specs.declared.entry.Entry.{Entry}
 use Rattle.turn_lock.specs.declared.view.View.{View}
 use Rattle.turn_lock.specs.Rule.{by, BeginsWith}
-use Rattle.turn_lock.specs.Plays.{with_ticket, served, adds, add_own, leaves, Owns, IsNumbered, Settles, Claimed}
+use Rattle.turn_lock.specs.Plays.{adds, add_own, leaves, Owns, IsNumbered, Settles, Claimed}
 use Rattle.turn_lock.specs.Seats.{own_of}
 use Rattle.turn_lock.proofs.Sums.{begins_more, by-own}
 

@@ -1,16 +1,16 @@
 -- The steps that add a view or change two: a seat is cut in two, or takes another in. And the end.
-use Rattle.std.proofs.Common.{◌≡◌, ◌≢◌, ℕ, zero, suc, ◌+◌, ◌%◌, ◌^◌, ◌<◌, ◌≤◌, ◌⊎◌, inl, inr, ⊎_elim, Bool, true, false, List, [], ◌∷◌, ◌++◌, length, set, sym, refl, ap, subst, ◌∙◌, arith, Some, None, Option, length-append, if◌then◌else◌, ◌==◌, cond, eq-eqb, ne_eqb}
-use mathlib.Core.Option.{Option as Home, some, none, some-injective, some-ne-none}
+use Rattle.std.proofs.Common.{◌≡◌, ◌≢◌, ℕ, zero, suc, ◌+◌, ◌%◌, ◌^◌, ◌<◌, ◌≤◌, inl, inr, ⊎_elim, Bool, true, false, List, [], ◌∷◌, ◌++◌, length, set, sym, refl, ap, subst, ◌∙◌, arith, Some, None, Option, length-append, if◌then◌else◌, ◌==◌, cond, eq-eqb, ne_eqb}
+use mathlib.Core.Option.{some, some-injective, some-ne-none}
 use Rattle.std.proofs.lemmas.Bool.{true≢false}
 use native.Mathlib.Decide.{ℕ_discrete}
 use lib.ListN.{get_elem?}
 use Rattle.atomic_table.specs.Table.{State, Splits, Joins, Final, Seen}
-use Rattle.atomic_table.proofs.Lists.{at_set, set_here, set_else, set_again, at_longer, at_snoc}
+use Rattle.atomic_table.proofs.Lists.{at_set, set_here, set_else, at_longer, at_snoc}
 use Rattle.turn_lock.specs.declared.entry.Entry.{Entry}
 use Rattle.turn_lock.specs.declared.view.View.{View}
-use Rattle.turn_lock.specs.Rule.{total, by, BeginsWith, InLine, one_if_some, waits, numbers, times, NoTwo, SameTicket, BothGive, Fits, Kept}
+use Rattle.turn_lock.specs.Rule.{total, by, one_if_some, waits, numbers, times, NoTwo, SameTicket, BothGive, Fits, Kept}
 use Rattle.turn_lock.specs.Plays.{blank, grown, newcomer, told, joined, Ends}
-use Rattle.turn_lock.proofs.Sums.{at_below, at_append, total-set, total-append, total_zero, term_le, terms_le, no_two-set, no_two-append, begins_all, begins_none, begins_more, line_longer}
+use Rattle.turn_lock.proofs.Sums.{at_below, at_append, total-set, total-append, total_zero, terms_le, no_two-set, no_two-append, begins_none}
 use Rattle.turn_lock.proofs.Keeps.{Beside, Keeps, counted, flip_ticket, flip_gives, same_view}
 
 no_mark : (b : Bool) → (b ≡ true → ⊥) → b ≡ false

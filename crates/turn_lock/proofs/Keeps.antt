@@ -1,6 +1,6 @@
 -- Each kind of step that changes one view keeps the rule.
-use Rattle.std.proofs.Common.{◌≡◌, ◌≢◌, ℕ, zero, suc, ◌+◌, ◌%◌, ◌^◌, ◌<◌, ◌≤◌, ◌⊎◌, inl, inr, ⊎_elim, Bool, true, false, List, [], ◌∷◌, ◌++◌, length, set, get_or, get_or-set_other, slice_index, slice_set, sym, refl, ap, subst, ◌∙◌, arith, Some, None, Option, length-set, if◌then◌else◌, ◌==◌, cond, eqb, eq-eqb}
-use mathlib.Core.Option.{Option as Home, some, none, some-injective, some-ne-none}
+use Rattle.std.proofs.Common.{◌≡◌, ◌≢◌, ℕ, zero, suc, ◌+◌, ◌%◌, ◌^◌, ◌<◌, ◌≤◌, ⊎_elim, Bool, true, false, List, [], ◌∷◌, ◌++◌, length, set, get_or-set_other, slice_index, slice_set, sym, refl, ap, subst, ◌∙◌, arith, Some, Option, length-set, if◌then◌else◌, ◌==◌, cond, eq-eqb}
+use mathlib.Core.Option.{Option as Home, some, none, some-injective}
 use Rattle.std.proofs.lemmas.Bool.{true≢false}
 use Rattle.std.proofs.lemmas.List.{get_or_default, same_from_push}
 use native.Mathlib.Decide.{ℕ_discrete}
@@ -10,7 +10,7 @@ use Rattle.atomic_table.proofs.Lists.{at_set, set_here, set_else, set_again, at_
 use Rattle.turn_lock.specs.declared.entry.Entry.{Entry}
 use Rattle.turn_lock.specs.declared.view.View.{View}
 use Rattle.turn_lock.specs.Rule.{total, by, BeginsWith, InLine, one_if_some, waits, numbers, times, SameTicket, BothGive, Fits, Kept}
-use Rattle.turn_lock.specs.Plays.{with_ticket, served, adds, leaves, reads, Idle, Owns, IsNumbered, add_own, draw, commit, Settles, look, Takes, pass_on, read}
+use Rattle.turn_lock.specs.Plays.{with_ticket, served, adds, leaves, reads, Idle, Owns, add_own, draw, commit, Settles, look, pass_on, read}
 use Rattle.turn_lock.proofs.Sums.{at_below, total-set, term_le, terms_le, total_le, no_two-set, begins_all, begins_none, begins_more, by-own, by-other, line_longer, line_at, line_behind, word_here}
 
 not_true : (b : Bool) → (b ≡ true → ⊥) → b ≡ false

@@ -1,5 +1,5 @@
 -- Sums over views, beginnings of a history, and the entries of one caller.
-use Rattle.std.proofs.Common.{◌≡◌, ◌≢◌, ℕ, zero, suc, ◌+◌, ◌%◌, ◌^◌, ◌<◌, ◌≤◌, eqb, cond, Bool, true, false, List, [], ◌∷◌, ◌++◌, length, set, get_or, sym, refl, ap, subst, ◌∙◌, eq-eqb, ne_eqb, append_assoc, append-nil, add-zero, arith, Some, None, Option, ◌⊎◌, inl, inr, ⊎_elim, get_or-set_same}
+use Rattle.std.proofs.Common.{◌≡◌, ◌≢◌, ℕ, zero, suc, ◌+◌, ◌<◌, ◌≤◌, eqb, cond, List, [], ◌∷◌, ◌++◌, length, set, get_or, sym, refl, ap, subst, ◌∙◌, eq-eqb, ne_eqb, append_assoc, append-nil, arith, Some, None, Option, ◌⊎◌, inl, inr, ⊎_elim, get_or-set_same}
 use mathlib.Core.Option.{some, some-injective, some-ne-none}
 use lib.ListN.{get_elem?}
 use Rattle.std.proofs.lemmas.List.Elements.{filter-append}

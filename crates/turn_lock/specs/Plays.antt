@@ -1,5 +1,5 @@
 -- What each kind of step makes of a view, and what it tells its caller.
-use Rattle.std.specs.Prelude.{◌≡◌, ◌≢◌, ℕ, ◌+◌, ◌%◌, ◌^◌, ◌≤◌, true, false, List, [], ◌∷◌, ◌++◌, length, Option, Some, None}
+use Rattle.std.specs.Prelude.{◌≡◌, ◌≢◌, ℕ, ◌+◌, ◌%◌, ◌^◌, ◌≤◌, true, false, List, [], ◌∷◌, ◌++◌, Option, Some, None}
 use mathlib.Core.Option.{some}
 use lib.ListN.{get_elem?}
 use Rattle.atomic_table.specs.Table.{Me, rest}
@@ -103,7 +103,8 @@ module _ {T C R : Type 0} (legal : List (Entry C R) → Type 0) (board : List (E
 abbrev pub IsNumbered : {C R : Type 0} → ℕ → View C R → Type 0
 IsNumbered {C} {R} number v = (mine : List (Entry C R)) × (more : List (ℕ × List (Entry C R))) × (v.kept ≡ (number, mine) ∷ more)
 
--- of the holder before it commits: the value in its slot has one entry more than it has seen, a legal one under its own number, and b is the board
+-- of the holder before it commits: the value in its slot has one entry more than it has seen, a
+-- legal one under its own number, and b is the board
 pub record Settles {T C R : Type 0} (history : T → List (Entry C R)) (legal : List (Entry C R) → Type 0) (board : List (Entry C R) → ℕ) (number b : ℕ) (m : Me (Option T) (View C R)) (x : T) (e : Entry C R) : Type 0 where
   pub with_it : m.1 ≡ (0, Some x) ∷ []
   pub holds : m.0.holds ≡ true
@@ -113,7 +114,8 @@ pub record Settles {T C R : Type 0} (history : T → List (Entry C R)) (legal : 
   pub is_legal : legal (history x)
   pub shown : b ≡ board (history x)
 
--- of the caller whose ticket is served: the value is in hand, and its history is what the seat has now seen
+-- of the caller whose ticket is served: the value is in hand, and its history is what the seat has
+-- now seen
 abbrev pub Claimed : {T C R : Type 0} → (T → List (Entry C R)) → (List (Entry C R) → Type 0) → Me (Option T) (View C R) → T → Me (Option T) (View C R) → Type 0
 Claimed history legal m x n =
     (t : ℕ) × (n ≡ (served (history x) (with_ticket t m.0), (0, None) ∷ []))
@@ -123,13 +125,15 @@ Claimed history legal m x n =
 abbrev pub IsNote : {S C R : Type 0} → Me S (View C R) → Type 0
 IsNote m = Idle m × (m.0.kept ≡ [])
 
--- of the view that took all others in: it has seen a beginning of the history, what it keeps under a number is what the history has of it, and no number from `all` on has an entry
+-- of the view that took all others in: it has seen a beginning of the history, what it keeps under
+-- a number is what the history has of it, and no number from `all` on has an entry
 pub record Ends {C R : Type 0} (all : ℕ) (log : List (Entry C R)) (v : View C R) : Type 0 where
   pub seen : BeginsWith log v.seen
   pub kept : (j k : ℕ) (es : List (Entry C R)) → get_elem? v.kept j ≡ some (k, es) → by k log ≡ es
   pub others : (k : ℕ) → all ≤ k → by k log ≡ []
 
--- another was taken in and the board was read: the history that is seen now begins with what both had seen
+-- another was taken in and the board was read: the history that is seen now begins with what both
+-- had seen
 abbrev pub Absorbs : {S C R : Type 0} → (List (Entry C R) → Type 0) → Me S (View C R) → Me S (View C R) → Me S (View C R) → Type 0
 Absorbs {S} {C} {R} legal m o n =
     (log : List (Entry C R)) × (n ≡ (reads log (joined m.0 o.0), []))

@@ -1,9 +1,9 @@
--- What holds of the lock between any two atomic steps.
--- The words of the table are the board, the next ticket and the served ticket, and its one slot is the home of the value.
--- Tickets are counted without bound here, and a word has the count's remainder.
-use Rattle.std.specs.Prelude.{◌≡◌, ◌≢◌, ℕ, ◌+◌, ◌%◌, ◌^◌, ◌<◌, ◌≤◌, ◌==◌, Bool, true, false, if◌then◌else◌, List, [], ◌∷◌, ◌++◌, length, slice_index, count_by, Option, Some, None}
+-- What holds of the lock between any two atomic steps. The words of the table are the board, the
+-- next ticket and the served ticket, and its one slot is the home of the value. Tickets are counted
+-- without bound here, and a word has the count's remainder.
+use Rattle.std.specs.Prelude.{◌≡◌, ◌≢◌, ℕ, ◌+◌, ◌%◌, ◌^◌, ◌<◌, ◌≤◌, ◌==◌, true, false, if◌then◌else◌, List, [], ◌∷◌, ◌++◌, length, slice_index, Option, Some, None}
 use Rattle.std.specs.List.{filter}
-use mathlib.Core.Option.{Option as Home, some, none}
+use mathlib.Core.Option.{some}
 use lib.ListN.{get_elem?}
 use Rattle.atomic_table.specs.Table.{State}
 use Rattle.turn_lock.specs.declared.entry.Entry.{Entry}
@@ -58,7 +58,8 @@ module _ {C R : Type 0} where
   abbrev pub Lawful : (List (Entry C R) → Type 0) → (List (Entry C R) → ℕ) → List (Entry C R) → Type 0
   Lawful legal board log = legal log × (length log < 2 ^ 20) × (board log % 2 ^ 20 ≡ length log)
 
--- what holds of one view, where the history is log, `count` views have a ticket and `made` numbers are given out
+-- what holds of one view, where the history is log, `count` views have a ticket and `made` numbers
+-- are given out
 pub record Fits {C R : Type 0} (legal : List (Entry C R) → Type 0) (log : List (Entry C R)) (serving count made : ℕ) (v : View C R) : Type 0 where
   pub in_line : InLine serving count v.ticket
   pub has_number : waits v ≤ numbers v

@@ -10,7 +10,8 @@ pub record TurnIs : Type 0 where
   pub of : TableId
   pub seats : ℕ
 
--- a seat: of which turn it is, its number, the history as it last saw it, and its own entries in that
+-- a seat: of which turn it is, its number, the history as it last saw it, and its own entries in
+-- that
 pub record SeatIs (C R : Type 0) : Type 0 where
   pub of : TableId
   pub number : ℕ
@@ -45,7 +46,8 @@ module _ {C R : Type 0} where
   abbrev pub new_seats : TableId → ℕ → ℕ → List (SeatIs C R)
   new_seats of a n = map (new_seat of) (range_with_len a n)
 
-  -- what was seen begins with what had been seen and ends with this call, which is one more of the seat's own
+  -- what was seen begins with what had been seen and ends with this call, which is one more of the
+  -- seat's own
   abbrev pub Adds : SeatIs C R → C → R → SeatIs C R → Type 0
   Adds old call reply new =
       (between : List (Entry C R)) × (new.seen ≡ (old.seen ++ between) ++ entry old.number call reply ∷ [])

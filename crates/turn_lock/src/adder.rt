@@ -96,7 +96,8 @@ impl Object for Adder {
 
     ghost legal = { IsAdding 0 };
 
-    // An odd number, and only such, is refused as odd; an even one as one too many exactly at the most entries.
+    // An odd number, and only such, is refused as odd; an even one as one too many exactly at the
+    // most entries.
     ghost refuses = { λ h call fault. (fault ≡ Odd → call % 2 ≡ 1) × (fault ≢ Odd → call % 2 ≡ 0) × (fault ≡ Full → length h ≡ 1048575) × (fault ≡ NoMemory → length h < 1048575) };
 
     ghost board_of = { λ h. length h + 1048576 * total_of h };

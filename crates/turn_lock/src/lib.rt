@@ -1,4 +1,5 @@
-//! A lock for callers on many threads: they wait in line, and all of them see beginnings of one history.
+//! A lock for callers on many threads: they wait in line, and all of them see beginnings of one
+//! history.
 #![tactic(auto)]
 
 mod entry;
@@ -13,7 +14,6 @@ pub use entry::Entry;
 pub use object::Object;
 pub use seat::{Note, SEATS, Seat, SeatList};
 pub use turn::Turn;
-pub use view::View;
 
 #[cfg(test)]
 mod adder;

@@ -4,7 +4,8 @@ ghost use Rattle.turn_lock.specs.declared.entry.Entry.{Entry};
 
 use std::alloc::Global;
 
-/// A value that many callers share, one at a time. It has a history of entries, one for each call that it answered.
+/// A value that many callers share, one at a time. It has a history of entries, one for each call
+/// that it answered.
 pub trait Object {
     /// What a caller asks.
     type Call;
@@ -21,7 +22,8 @@ pub trait Object {
     /// The board of a history: what a glance shows of it.
     ghost board_of: { List (Entry Self.Call Self.Reply) → ℕ };
 
-    /// Answers a call, which is then the last entry of the history. A refused call comes back, and the history is as before.
+    /// Answers a call, which is then the last entry of the history. A refused call comes back, and
+    /// the history is as before.
     fn apply(
         &mut self,
         alloc: Global,
@@ -33,7 +35,8 @@ pub trait Object {
         ensures back { IfErr result (λ e. e.1 ≡ call) }
         ensures refused { IfErr result (λ e. refuses (history self.old) call e.0) };
 
-    /// The board: the length of the history in the low 20 bits, and above them what the object shows of itself.
+    /// The board: the length of the history in the low 20 bits, and above them what the object
+    /// shows of itself.
     fn board(&self) -> u64
         ensures board { result ≡ board_of (history self.now) }
         ensures legal { legal (history self.now) }

@@ -7,8 +7,8 @@ use std::marker::Model;
 /// The most seats of a turn.
 pub const SEATS: u32 = 16;
 
-/// A caller's right to call. It has a number, and it knows the history as it last saw it and its own entries in that.
-/// What it knows is known to contracts alone.
+/// A caller's right to call. It has a number, and it knows the history as it last saw it and its
+/// own entries in that. What it knows is known to contracts alone.
 #[derive(Drop)]
 pub struct Seat<T: Object> {
     pub(crate) place: Place<T>,

@@ -1,7 +1,7 @@
 ghost use Rattle.std.specs.Prelude.{◌≡◌, ◌<◌, ◌≤◌, length, IfSome};
 ghost use Rattle.std.specs.List.{All};
 ghost use Rattle.std.specs.Thread.{IsSync};
-ghost use Rattle.turn_lock.specs.Adding.{names, all_names};
+ghost use Rattle.turn_lock.specs.Names.{names, all_names};
 
 use crate::adder::{Adder, MOST, Refusal, Small};
 use crate::{Note, SEATS, Seat, Turn};

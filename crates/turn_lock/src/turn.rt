@@ -32,8 +32,8 @@ impl<T: Object> Model for Turn<T> {
 }
 
 impl<T: Object> Turn<T> {
-    /// A turn for a value with no history yet, and its seats: the k-th of the list has the number k, has seen the empty
-    /// history and has no entries. At `NoMemory` the value comes back.
+    /// A turn for a value with no history yet, and its seats: the k-th of the list has the number
+    /// k, has seen the empty history and has no entries. At `NoMemory` the value comes back.
     pub fn new(alloc: Global, value: T, seats: u32) -> Result<(Turn<T>, SeatList<T>), (NoMemory, T)>
         requires some { 1 ≤ seats }
         requires most { seats ≤ SEATS }
@@ -61,8 +61,8 @@ impl<T: Object> Turn<T> {
         Ok((Turn { steps }, Sequence::from_vec(list)))
     }
 
-    /// Waits for its turn and makes a call. What the seat has seen afterwards ends with this call. A refused call comes
-    /// back, and then the seat has seen the history at which it was refused.
+    /// Waits for its turn and makes a call. What the seat has seen afterwards ends with this call.
+    /// A refused call comes back, and then the seat has seen the history at which it was refused.
     pub fn call<R: Wait>(
         &self,
         rt: &R,
@@ -95,7 +95,8 @@ impl<T: Object> Turn<T> {
         }
     }
 
-    /// The board of the history as it is now. The seat has seen that history from now on. It does not wait.
+    /// The board of the history as it is now: one load. The seat has seen that history from now on.
+    /// It does not wait and takes no memory.
     pub fn glance(&self, seat: &mut Seat<T>) -> u64
         requires of { seat.old.of ≡ self.now.of }
         ensures seat { (seat.new.of ≡ seat.old.of) × (seat.new.number ≡ seat.old.number) }
@@ -110,7 +111,7 @@ impl<T: Object> Turn<T> {
         self.steps.read(&mut seat.place)
     }
 
-    /// A note of what the seat has seen.
+    /// A note of what the seat has seen. It takes no memory.
     pub fn note(&self, seat: &mut Seat<T>) -> Note<T>
         requires of { seat.old.of ≡ self.now.of }
         ensures seat { seat.new ≡ seat.old }
@@ -122,7 +123,8 @@ impl<T: Object> Turn<T> {
         }
     }
 
-    /// Tells a seat what a note knows: from now on it has seen no less than that.
+    /// Tells a seat what a note knows: from now on it has seen no less than that. It takes no
+    /// memory.
     pub fn hear(&self, seat: &mut Seat<T>, note: Note<T>)
         requires of { seat.old.of ≡ self.now.of }
         requires note { note.of ≡ self.now.of }
@@ -137,8 +139,9 @@ impl<T: Object> Turn<T> {
         self.steps.absorb(&mut seat.place, place);
     }
 
-    /// The value, once every seat is handed in. Each seat has seen a beginning of its history, and of each number it has
-    /// just the entries of that seat.
+    /// The value, once every seat is handed in. Each seat has seen a beginning of its history, and
+    /// of each number it has just the entries of that seat, each once. It takes no memory, so it
+    /// never answers `NoMemory`.
     pub fn close(
         self,
         _alloc: Global,

@@ -11,7 +11,8 @@ pub struct View<C, R> {
     pub seen: LinkedList<Entry<C, R>>,
     /// What a seat or note that it took in had seen, until its next look at the board.
     pub heard: LinkedList<Entry<C, R>>,
-    /// Its own number with its own entries, and then those of the seats that it took in. A note has none.
+    /// Its own number with its own entries, and then those of the seats that it took in. A note has
+    /// none.
     pub kept: LinkedList<(u32, LinkedList<Entry<C, R>>)>,
     /// How many numbers were given out, in the view that gives them out, and else 0.
     pub given: u64,

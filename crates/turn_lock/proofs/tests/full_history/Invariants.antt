@@ -1,5 +1,5 @@
 use Rattle.std.proofs.Common.{◌≡◌}
-use Rattle.turn_lock.specs.Adding.{names, all_names}
+use Rattle.turn_lock.specs.Names.{names, all_names}
 use Rattle.turn_lock.proofs.tests.full_history.Given as goal
 
 abbrev pub invariant-loop : goal.invariant-loop

@@ -1,4 +1,3 @@
-use Rattle.std.proofs.Common.{ap}
 use Rattle.turn_lock.proofs.Adding.{within_turn, of_turn_at, names_kept}
 use Rattle.turn_lock.proofs.tests.look.Goals as goal
 

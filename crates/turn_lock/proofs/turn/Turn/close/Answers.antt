@@ -1,4 +1,4 @@
-use Rattle.std.proofs.Common.{◌≡◌, ◌∷◌, [], ◌++◌, ◌<◌, List, sym, ap, subst, ◌∙◌, append_assoc}
+use Rattle.std.proofs.Common.{◌≡◌, ◌∷◌, [], ◌++◌, ◌<◌, sym, ap, subst, ◌∙◌, append_assoc}
 use Rattle.std.specs.List.{All}
 use Rattle.turn_lock.specs.Rule.{Lawful}
 use Rattle.turn_lock.proofs.Lists.{KeepsSeat, all_of_last, keeps_first, keeps_more, all_done, still_idle, every_kept, all_seen, all_mine}

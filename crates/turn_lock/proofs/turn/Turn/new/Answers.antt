@@ -1,4 +1,4 @@
-use Rattle.std.proofs.Common.{◌∷◌, ap, ◌∙◌, arith}
+use Rattle.std.proofs.Common.{ap, ◌∙◌, arith}
 use Rattle.turn_lock.specs.Seats.{seat_is}
 use Rattle.turn_lock.proofs.Lists.{first_idle, is_new, is_first, is_giver, one_more, all_made}
 use Rattle.turn_lock.proofs.turn.Turn.new.Goals as goal

@@ -14,3 +14,4 @@ mod stamping;
 pub use call::{Answer, ApplyFault, Call, Cause, Entry, Reply};
 pub use journal::Journal;
 pub use sender::Sender;
+pub use settings::START_RATE;

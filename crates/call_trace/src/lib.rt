@@ -1,0 +1,15 @@
+//! Traces: the calls of several actors to one sender, as lines of text.
+//!
+//! A line is the bytes before a line feed. The first line is `gcc-trace 1 ACTORS`. Then come lines
+//! of action, then `end`, and nothing behind it. The format is this project's own.
+#![tactic(auto)]
+
+mod action;
+mod fault;
+mod fields;
+mod reading;
+mod trace;
+
+pub use fault::{ReadTrace, TraceFault};
+pub use reading::read_trace;
+pub use trace::{Action, Line, LineList, Trace};

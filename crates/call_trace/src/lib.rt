@@ -7,9 +7,11 @@
 mod action;
 mod fault;
 mod fields;
+mod laws;
 mod reading;
 mod trace;
 
 pub use fault::{ReadTrace, TraceFault};
+pub use laws::{lines_in_order_merge, no_bytes_spell_two_traces};
 pub use reading::read_trace;
 pub use trace::{Action, Line, LineList, Trace};

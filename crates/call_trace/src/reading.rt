@@ -1,6 +1,9 @@
 //! Whole traces.
 
-ghost use Rattle.std.specs.Prelude.{◌≡◌, ◌+◌, ◌<◌, ◌≤◌, ◌∷◌, [], length, List, IfSome, IfNone, Result};
+ghost use Rattle.std.specs.Prelude.{◌≡◌, ◌+◌, ◌<◌, ◌≤◌, ◌∷◌, [], length, List, ℕ, Ok, IfOk, IfSome, IfNone};
+ghost use Rattle.gcc_units.specs.Listed.{bare};
+ghost use Rattle.call_trace.specs.Plain.{Plain, plain, settled, Fits, IsSettled};
+ghost use Rattle.call_trace.specs.Grammar.{IsTrace};
 ghost use Rattle.call_trace.specs.Fields.{Cut, lines_of};
 ghost use Rattle.call_trace.specs.Reading.{Gives, GivesLines, GivesTrace, header_at, actions_at, trace_at, located};
 
@@ -80,11 +83,11 @@ fn actions(alloc: Global, actors: u32, bytes: &[u8]) -> Result<LineList, ReadTra
     Err(at_line(count, Bad::Reason(NO_END)))
 }
 
-/// The trace that the bytes spell, all of the bytes.
 #[tactic(auto, unfolding(crate::specs::Reading::lines_at))]
-pub fn read_trace(alloc: Global, bytes: &[u8]) -> Result<Trace, ReadTrace>
+fn all(alloc: Global, bytes: &[u8]) -> Result<Trace, ReadTrace>
     requires { length bytes.now ≤ MOST_CHECK_BYTES }
     ensures exact { GivesTrace result (trace_at MOST_LINES bytes.now) }
+    ensures settled { IfOk result (λ trace. trace.lines ≡ bare trace.lines.items) }
 {
     let Some((title, rest)) = next_line(bytes) else {
         return Err(at_line(1, Bad::Reason(NO_END)));
@@ -95,4 +98,23 @@ pub fn read_trace(alloc: Global, bytes: &[u8]) -> Result<Trace, ReadTrace>
     };
     let lines = actions(alloc, actors, rest)?;
     Ok(Trace { actors, lines })
+}
+
+/// The trace that the bytes spell, all of the bytes: the line `gcc-trace 1 ACTORS`, at most
+/// `MOST_LINES` lines of action, and the line `end`.
+///
+/// `Fault` names the first bad line and the reason of its first bad field; `NoMemory` comes where
+/// memory runs out. A packet takes memory of its own; the bytes are only looked at.
+pub fn read_trace(alloc: Global, bytes: &[u8]) -> Result<Trace, ReadTrace>
+    requires { length bytes.now ≤ MOST_CHECK_BYTES }
+    // What is read is spelled so.
+    ensures found { IfOk result (λ trace. IsTrace bytes.now (plain trace)) }
+    // What is spelled so is read, unless memory runs out.
+    ensures only { (trace : Plain) → IsTrace bytes.now trace → length trace.lines ≤ MOST_LINES → GivesTrace result (Ok (settled trace)) }
+    // Which fault it is.
+    ensures exact { GivesTrace result (trace_at MOST_LINES bytes.now) }
+    ensures fits { IfOk result (λ trace. Fits (plain trace)) }
+    ensures settled { IfOk result (λ trace. IsSettled trace) }
+{
+    all(alloc, bytes)
 }

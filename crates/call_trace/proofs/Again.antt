@@ -18,9 +18,9 @@ use Rattle.call_trace.specs.declared.trace.Action.{Action}
 use Rattle.call_trace.specs.declared.trace.Action.TheVariants.{Ask, Look}
 use Rattle.call_trace.specs.declared.trace.Line.{Line}
 use Rattle.call_trace.specs.Plain.{Plain, settled_action, settled_line, settled}
-use Rattle.call_trace.specs.Fields.{lines_of}
+use Rattle.call_trace.specs.Fields.{fed, lines_of}
 use Rattle.call_trace.specs.Reading.{◌>>=◌, actor_at, moment_at, class_at, hex_at, enqueue_at, pace_at, glance_at, action_at, is_end, actions_at, header_at, lines_at, trace_at}
-use Rattle.call_trace.specs.Grammar.{fed, letter_of, IsHex, IsAction, IsLine, header, IsTrace}
+use Rattle.call_trace.specs.Grammar.{letter_of, IsHex, IsAction, IsLine, header, IsTrace}
 use Rattle.call_trace.proofs.Lines.{Lacks, Lacks-from_each, line_first}
 use Rattle.call_trace.proofs.Numbers.{number_of-decimal, Lacks-decimal}
 use Rattle.call_trace.proofs.Parts.{field_of, behind_of}
@@ -200,8 +200,9 @@ pub trace_again : (most : ℕ) (bytes : List ℕ) (trace : Plain) → IsTrace by
 trace_again most bytes trace h few =
     let count = length-zip (IsLine trace.actors) h.texts trace.lines h.actions in
     let actors : trace.actors ≤ 2 ^ 32 = omega (arith, h.few_actors) in
-    let cut = fed_line (header trace.actors) (flat_map fed h.texts ++ fed (codes "end")) (feedless_header trace.actors (omega arith)) ∙ rw (fed_lines trace.actors h.texts trace.lines actors h.actions) refl in
-    let all = ap lines_of h.spelled ∙ cut in
+    let cut : lines_of (fed (header trace.actors) ++ (flat_map fed h.texts ++ fed (codes "end"))) ≡ record { whole = header trace.actors ∷ (h.texts ++ codes "end" ∷ []); rest = [] }
+    = fed_line (header trace.actors) (flat_map fed h.texts ++ fed (codes "end")) (feedless_header trace.actors (omega arith)) ∙ rw (fed_lines trace.actors h.texts trace.lines actors h.actions) refl in
+    let all : lines_of bytes ≡ record { whole = header trace.actors ∷ (h.texts ++ codes "end" ∷ []); rest = [] } = ap lines_of h.spelled ∙ cut in
     let read = actions_before most trace.actors 2 (2 + length h.texts) h.texts (codes "end" ∷ []) [] trace.lines actors h.actions refl (omega arith)
     ∙ ap (with_lines (map settled_line trace.lines)) (last_line most trace.actors (2 + length h.texts)) ∙ with_lines-ok (map settled_line trace.lines) [] ∙ ap (λ (ls : List Line). Ok ls) (append-nil (map settled_line trace.lines)) in
     rw all (trace_lines most trace.actors (map settled_line trace.lines) (header trace.actors) (h.texts ++ codes "end" ∷ []) (header_again trace.actors h.some_actor h.few_actors) read)

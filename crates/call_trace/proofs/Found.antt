@@ -109,6 +109,10 @@ moved actors text made line is read = subst (λ (l : Line). IsRead actors text l
 abbrev pub IsReadBehind : ℕ → List ℕ → List ℕ → Line → Type 0
 IsReadBehind actors verb rest line = (0 < length rest) × IsRead actors (verb ++ 32 ∷ rest) line
 
+settles : (actor at : ℕ) (class : Class) (wire : Listed ℕ) → wire ≡ bare wire.items
+    → (let line : Line = record { actor = actor; action = Ask (Enqueue at class wire) } in line ≡ settled_line line)
+settles actor at class wire is = ap (λ (l : Listed ℕ). let line : Line = record { actor = actor; action = Ask (Enqueue at class l) } in line) {x = wire} {y = bare wire.items} is
+
 enqueue_found : (actors : ℕ) (rest : List ℕ) (line : Line) → enqueue_at actors rest ≡ Ok line → IsReadBehind actors (69 ∷ []) rest line
 unfolding enqueue_at
 enqueue_found actors rest line e =
@@ -133,7 +137,7 @@ enqueue_found actors rest line e =
     let text : rest ≡ decimal a.0 ++ 32 ∷ (decimal m.0 ++ 32 ∷ (letter_of c.0 ++ 32 ∷ hex)) = p0 ∙ ap (λ (t : List ℕ). decimal a.0 ++ 32 ∷ t) (p1 ∙ ap (λ (t : List ℕ). decimal m.0 ++ 32 ∷ t) p2) in
     let read : IsRead actors (69 ∷ 32 ∷ rest) made = record {
       spelled = (actor.1, (hex, wire.0, moment.1, ap (λ (t : List ℕ). 69 ∷ 32 ∷ t) text));
-      settled = ap (λ (l : Listed ℕ). record { actor = a.0; action = Ask (Enqueue m.0 c.0 l) }) wire.1;
+      settled = settles a.0 m.0 c.0 w.0 wire.1;
       bytes = wire.0.0;
     } in
     (some0, moved actors (69 ∷ 32 ∷ rest) made line (ok_is made line w.2) read)

@@ -6,3 +6,6 @@ pub mod Found
 pub mod Whole
 pub mod Again
 pub mod Merging
+pub mod BadLines
+pub mod Faulty
+pub mod Cutting

@@ -12,9 +12,9 @@ use Rattle.gcc_units.specs.declared.limits.TheConstants.{MOST_ACTORS}
 use Rattle.call_trace.specs.declared.fault.TheConstants.{NO_HEADER}
 use Rattle.call_trace.specs.declared.trace.Line.{Line}
 use Rattle.call_trace.specs.Plain.{Plain, settled_line, settled, FitsLine}
-use Rattle.call_trace.specs.Fields.{is_feed, Cut, begun, lines_of, number_of}
+use Rattle.call_trace.specs.Fields.{fed, is_feed, Cut, begun, lines_of, number_of}
 use Rattle.call_trace.specs.Reading.{◌>>=◌, or_reason, action_at, at_line, is_end, ended, actions_at, title, from_one, header_at, lines_at, trace_at}
-use Rattle.call_trace.specs.Grammar.{fed, IsLine, header, IsTrace}
+use Rattle.call_trace.specs.Grammar.{IsLine, header, IsTrace}
 use Rattle.call_trace.proofs.Numbers.{number_spells}
 use Rattle.call_trace.proofs.Found.{bind_ok, ok_is, or_reason_ok, guard_ok, IsRead, action_found}
 

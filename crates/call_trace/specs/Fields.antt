@@ -1,6 +1,6 @@
 -- Lines, fields and numbers. A line is the bytes before a line feed, and its fields are parted by one space.
-use Rattle.std.specs.Prelude.{ℕ, ◌+◌, ◌-◌, ◌*◌, ◌^◌, nat_lt, nat_le, ◌==◌, ◌&&◌, Bool, if◌then◌else◌, List, [], ◌∷◌, Option, Some, None}
-use Rattle.std.specs.List.{before_first, after_first}
+use Rattle.std.specs.Prelude.{◌≡◌, ◌≢◌, ℕ, ◌+◌, ◌-◌, ◌*◌, ◌^◌, nat_lt, nat_le, ◌==◌, ◌&&◌, Bool, if◌then◌else◌, List, [], ◌∷◌, ◌++◌, Option, Some, None}
+use Rattle.std.specs.List.{before_first, after_first, flat_map, All}
 
 abbrev pub is_byte : ℕ → ℕ → Bool
 is_byte byte b = b == byte
@@ -34,6 +34,16 @@ lines_of [] = record { whole = []; rest = [] }
 lines_of (b ∷ bytes) =
     if is_feed b then record { whole = [] ∷ (lines_of bytes).whole; rest = (lines_of bytes).rest }
     else begun b (lines_of bytes).whole (lines_of bytes).rest
+
+-- a line with its line feed
+abbrev pub fed : List ℕ → List ℕ
+fed line = line ++ 10 ∷ []
+
+-- the bytes are these lines with their line feeds, and then the rest; no other line feed is there
+pub record IsCut (bytes : List ℕ) (cut : Cut) : Type 0 where
+  pub joined : bytes ≡ flat_map fed cut.whole ++ cut.rest
+  pub whole : All (λ line. All (λ b. b ≢ 10) line) cut.whole
+  pub rest : All (λ b. b ≢ 10) cut.rest
 
 abbrev pub is_digit : ℕ → Bool
 is_digit d = nat_le 48 d && nat_le d 57

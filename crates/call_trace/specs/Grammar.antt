@@ -11,14 +11,11 @@ use Rattle.call_trace.specs.declared.trace.Action.{Action}
 use Rattle.call_trace.specs.declared.trace.Action.TheVariants.{Ask, Look}
 use Rattle.call_trace.specs.declared.trace.Line.{Line}
 use Rattle.call_trace.specs.Plain.{Plain}
+use Rattle.call_trace.specs.Fields.{fed}
 
 -- fields with one space between each two
 abbrev pub spaced : List (List ℕ) → List ℕ
 spaced fields = join_with_byte 32 fields
-
--- a line with its line feed
-abbrev pub fed : List ℕ → List ℕ
-fed line = line ++ 10 ∷ []
 
 abbrev pub letter_of : Class → List ℕ
 letter_of Audio = codes "a"

@@ -4,3 +4,4 @@ pub mod Reading
 pub mod Grammar
 pub mod Merge
 pub mod Ordered
+pub mod Faults

@@ -24,6 +24,9 @@ pub const NO_END: u32 = 10;
 /// Bytes stand behind the line `end`.
 pub const BEHIND_END: u32 = 11;
 
+/// The source is longer than a trace may be. Line 0 has this reason, and no other line.
+pub const TOO_LONG: u32 = 12;
+
 /// The first bad line, and why it is bad.
 #[derive(Clone, Copy, PartialEq, Eq, Debug)]
 pub struct TraceFault {

@@ -11,7 +11,13 @@ mod laws;
 mod reading;
 mod trace;
 
-pub use fault::{ReadTrace, TraceFault};
-pub use laws::{lines_in_order_merge, no_bytes_spell_two_traces};
+pub use fault::{
+    BEHIND_END, NO_ACTOR, NO_END, NO_HEADER, NO_HEX, NO_MOMENT, NO_VERB, ReadTrace, TOO_LONG,
+    TOO_MANY_LINES, TraceFault,
+};
+pub use laws::{lines_are_cut_at_line_feeds, lines_in_order_merge, no_bytes_spell_two_traces};
 pub use reading::read_trace;
 pub use trace::{Action, Line, LineList, Trace};
+
+#[cfg(test)]
+mod tests;

@@ -1,9 +1,11 @@
 //! Whole traces.
 
-ghost use Rattle.std.specs.Prelude.{◌≡◌, ◌+◌, ◌<◌, ◌≤◌, ◌∷◌, [], length, List, ℕ, Ok, IfOk, IfSome, IfNone};
+ghost use Rattle.std.specs.Prelude.{◌≡◌, ◌+◌, ◌<◌, ◌≤◌, ◌∷◌, [], length, List, ℕ, Ok, Err, IfOk, IfErr, IfSome, IfNone};
 ghost use Rattle.gcc_units.specs.Listed.{bare};
 ghost use Rattle.call_trace.specs.Plain.{Plain, plain, settled, Fits, IsSettled};
 ghost use Rattle.call_trace.specs.Grammar.{IsTrace};
+ghost use Rattle.call_trace.specs.Faults.{IfFault, IsFirstFault};
+ghost use Rattle.call_trace.specs.declared.fault.TraceFault.{TraceFault};
 ghost use Rattle.call_trace.specs.Fields.{Cut, lines_of};
 ghost use Rattle.call_trace.specs.Reading.{Gives, GivesLines, GivesTrace, header_at, actions_at, trace_at, located};
 
@@ -111,7 +113,10 @@ pub fn read_trace(alloc: Global, bytes: &[u8]) -> Result<Trace, ReadTrace>
     ensures found { IfOk result (λ trace. IsTrace bytes.now (plain trace)) }
     // What is spelled so is read, unless memory runs out.
     ensures only { (trace : Plain) → IsTrace bytes.now trace → length trace.lines ≤ MOST_LINES → GivesTrace result (Ok (settled trace)) }
-    // Which fault it is.
+    // The fault is that of the first bad line, and in this line of the first bad field.
+    ensures fault { IfErr result (λ e. IfFault e (λ f. IsFirstFault MOST_LINES bytes.now f)) }
+    ensures faulty { (f : TraceFault) → IsFirstFault MOST_LINES bytes.now f → GivesTrace result (Err f) }
+    // What is returned is what reading line by line and field by field gives.
     ensures exact { GivesTrace result (trace_at MOST_LINES bytes.now) }
     ensures fits { IfOk result (λ trace. Fits (plain trace)) }
     ensures settled { IfOk result (λ trace. IsSettled trace) }

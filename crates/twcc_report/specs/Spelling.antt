@@ -63,7 +63,8 @@ twos_complement24 n = if nat_lt n 8388608 then pos n else pos n -ℤ pos 1677721
 abbrev pub low24 : ℕ → List ℕ
 low24 n = (n / 65536 % 256) ∷ (n / 256 % 256) ∷ (n % 256) ∷ []
 
--- The 20 bytes of the header. The padding bit and the length in words less one are no part of the report.
+-- The 20 bytes of the header, the first of them with version 2 and format 15. The padding bit and the length in words less one are
+-- no part of the report.
 abbrev pub header : ℕ → ℕ → Feedback → List ℕ
 header bit words f =
     (143 + 32 * bit) ∷ 205 ∷ to_be_bytes w16 words ++ to_be_bytes w32 f.sender ++ to_be_bytes w32 f.media ++ to_be_bytes w16 f.base
@@ -78,7 +79,8 @@ pub record EndsPadded (rest : List ℕ) : Type 0 where
 abbrev pub EndsWell : ℕ → List ℕ → Type 0
 EndsWell bit rest = (bit ≡ 0 → length rest ≤ 3) × (bit ≡ 1 → EndsPadded rest)
 
--- The bytes are a spelling of the report.
+-- The bytes are a spelling of the report: its header, chunks for its statuses, their deltas and a rest. They are whole words, as many
+-- as the length field can tell.
 pub record Spells (f : Feedback) (bytes : List ℕ) : Type 0 where
   pub bit : ℕ
   pub chunks : List ℕ

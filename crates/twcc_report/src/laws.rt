@@ -7,7 +7,8 @@ ghost use Rattle.twcc_report.specs.Checks.{IsByChecks};
 
 /// No bytes spell two reports.
 pub fn one_report()
-    ensures { (f g : Feedback) (bytes : List ℕ) → Fits f → Fits g → Spells f bytes → Spells g bytes → f ≡ g }
+    ensures { (f g : Feedback) (bytes : List ℕ) → Fits f → Fits g
+        → Spells f bytes → Spells g bytes → f ≡ g }
 {}
 
 /// Reading bytes gives the fault of the first check that fails, and the report that they spell

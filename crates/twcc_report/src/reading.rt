@@ -105,7 +105,8 @@ fn symbol_at(word: u16, k: usize) -> u8
 fn push_symbols(symbols: &mut Vec<u8>, word: u16, count: usize)
     requires few { length symbols.old.items ≤ count }
     requires room { count ≤ vec_capacity symbols.old }
-    ensures items { symbols.new.items ≡ symbols.old.items ++ take (count - length symbols.old.items) (symbols_of word) }
+    ensures items { symbols.new.items
+        ≡ symbols.old.items ++ take (count - length symbols.old.items) (symbols_of word) }
     ensures capacity { vec_capacity symbols.new ≡ vec_capacity symbols.old }
 {
     let more = symbol_count(word).min(count - symbols.len());

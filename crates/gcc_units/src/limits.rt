@@ -47,3 +47,12 @@ pub const MOST_CLUSTERS: u32 = 16;
 
 /// The most entries of a journal.
 pub const MOST_ENTRIES: u32 = 200_000;
+
+/// The most packets, credits or samples that one object is given: 2^27.
+pub const MOST_PACKETS: u32 = 134_217_728;
+
+/// How far an arrival may lie from 0, in quarter-milliseconds: 2^53.
+pub const GREATEST_ARRIVAL: i64 = 9_007_199_254_740_992;
+
+/// How far the `d` of a sample may lie from 0, in 1/65536 millisecond: 10,000 ms.
+pub const GREATEST_DELAY: i64 = 655_360_000;

@@ -1,0 +1,3 @@
+mod Floors
+mod Roots
+mod Powers

@@ -1,0 +1,16 @@
+//! The packets that wait to be sent, and which of them goes next.
+//!
+//! [`Queues`] keeps a [`Ticket`] for each waiting packet. Contracts see it as the list of the waiting
+//! tickets, in the order of their arrival. The ticket with the least pair of rank and index goes
+//! first: audio before retransmissions before video and forward error correction, and within a rank
+//! the packet that came first.
+#![tactic(auto)]
+
+mod queues;
+mod ticket;
+
+pub use queues::Queues;
+pub use ticket::{Full, Ticket};
+
+#[cfg(test)]
+mod tests;

@@ -1,0 +1,6 @@
+//! What a pace sends.
+#![tactic(auto)]
+
+mod sent;
+
+pub use sent::{Kind, Sent, SentList};

@@ -1,0 +1,6 @@
+pub mod History
+pub mod Reply
+pub mod Wires
+pub mod Places
+pub mod Settled
+pub mod Stands

@@ -1,0 +1,17 @@
+//! The media sender: calls come in one after another, and each reply is determined by the history
+//! of the calls before it.
+#![tactic(auto)]
+
+mod call;
+mod copies;
+mod journal;
+mod pacing;
+mod parts;
+mod sender;
+mod settings;
+mod stamping;
+
+pub use call::{Answer, ApplyFault, Call, Cause, Entry, Reply};
+pub use journal::Journal;
+pub use sender::Sender;
+pub use settings::START_RATE;

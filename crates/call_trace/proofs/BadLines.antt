@@ -1,20 +1,17 @@
 -- A line is refused exactly for its first bad field.
-use Rattle.std.proofs.Common.{◌≡◌, ℕ, suc, ◌+◌, ◌^◌, ◌<◌, ◌≤◌, Bool, true, false, cond, eqb, ltb, ◌&&◌, List, [], ◌∷◌, ◌++◌, length, Option, Some, None, Result, Ok, Err, refl, sym, ap, subst, ◌∙◌, arith, inl, inr}
-use Rattle.std.specs.Prelude.{◌⊎◌, codes, nat_eq}
-use Rattle.std.specs.Fmt.{decimal}
-use Rattle.std.specs.Cmp.Lexicographic.{pointwise}
+use Rattle.std.proofs.Common.{◌≡◌, ℕ, ◌^◌, ◌≤◌, Bool, true, false, cond, eqb, ltb, List, [], ◌∷◌, Option, Some, None, Result, Ok, Err, refl, sym, ap, ◌∙◌, arith, inl, inr}
+use Rattle.std.specs.Prelude.{◌⊎◌}
 use Rattle.std.proofs.Math.Bool.{and-true, and-false}
 use Rattle.hex.specs.declared.error.FromHexError.{FromHexError}
 use Rattle.hex.specs.Hex.{decode_of}
 use Rattle.gcc_units.specs.declared.class.Class.{Class}
-use Rattle.gcc_units.specs.Listed.{Listed, bare}
+use Rattle.gcc_units.specs.Listed.{bare}
 use Rattle.send_core.specs.declared.call.Call.TheVariants.{Enqueue, Pace}
 use Rattle.call_trace.specs.declared.fault.TheConstants.{NO_ACTOR, NO_VERB, NO_MOMENT, NO_HEX}
 use Rattle.call_trace.specs.declared.trace.Action.TheVariants.{Ask, Look}
 use Rattle.call_trace.specs.declared.trace.Line.{Line}
 use Rattle.call_trace.specs.Fields.{field, behind, number_of}
-use Rattle.call_trace.specs.Reading.{◌>>=◌, or_reason, below, actor_at, moment_at, class_of, class_at, decoded, hex_at, enqueue_at, pace_at, glance_at, verb_at, fields_at, action_at}
-use Rattle.call_trace.specs.Grammar.{letter_of, IsHex}
+use Rattle.call_trace.specs.Reading.{◌>>=◌, or_reason, below, actor_at, moment_at, class_at, decoded, hex_at, enqueue_at, pace_at, glance_at, fields_at, action_at}
 use Rattle.call_trace.specs.Faults.{Kind, actor, moment, class, packet, kinds_of, IsGood, reason_of, IsFirstBad, IsBadOf, IsBadLine}
 use Rattle.call_trace.proofs.Found.{actor_found, moment_found, class_found, hex_found}
 use Rattle.call_trace.proofs.Again.{actor_again, moment_again, class_again, hex_again}

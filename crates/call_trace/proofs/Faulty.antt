@@ -1,23 +1,22 @@
 -- Reading fails exactly with the first fault of the bytes.
-use Rattle.std.proofs.Common.{◌≡◌, ℕ, suc, ◌+◌, ◌^◌, ◌<◌, ◌≤◌, Bool, true, false, cond, ltb, List, [], ◌∷◌, ◌++◌, length, map, Result, Ok, Err, Option, Some, None, ◌&&◌, take, drop, refl, sym, ap, subst, ◌∙◌, append_assoc, arith, inl, inr, length-append}
+use Rattle.std.proofs.Common.{◌≡◌, ℕ, ◌+◌, ◌^◌, ◌<◌, ◌≤◌, Bool, true, false, cond, ltb, List, [], ◌∷◌, ◌++◌, length, map, Result, Ok, Err, Option, Some, None, ◌&&◌, take, drop, refl, sym, ap, ◌∙◌, append_assoc, arith, inl, inr, length-append}
 use Rattle.std.proofs.Math.Dec.{leb}
 use Rattle.std.specs.Prelude.{◌⊎◌, ◌≢◌, codes, nat_eq}
 use Rattle.std.specs.List.{AllZip}
-use Rattle.std.specs.Cmp.Lexicographic.{pointwise, same_text}
+use Rattle.std.specs.Cmp.Lexicographic.{pointwise}
 use Rattle.std.proofs.lemmas.Bool.{cases_Bool, lt-ltb, le-ltb, ltb-true, ltb-false, false_from_ne_true}
-use Rattle.std.proofs.lemmas.List.{append-nil}
 use Rattle.gcc_units.specs.declared.limits.TheConstants.{MOST_ACTORS}
 use Rattle.call_trace.specs.declared.fault.TheConstants.{NO_HEADER, TOO_MANY_LINES, NO_END, BEHIND_END}
 use Rattle.call_trace.specs.declared.fault.TraceFault.{TraceFault}
 use Rattle.call_trace.specs.declared.trace.Line.{Line}
 use Rattle.call_trace.specs.Plain.{Plain, settled_line}
-use Rattle.call_trace.specs.Fields.{Cut, lines_of, number_of}
+use Rattle.call_trace.specs.Fields.{lines_of, number_of}
 use Rattle.call_trace.specs.Reading.{◌>>=◌, or_reason, fault, action_at, at_line, is_end, ended, actions_at, title, from_one, header_at, lines_at, trace_at}
 use Rattle.call_trace.specs.Grammar.{IsLine, header}
-use Rattle.call_trace.specs.Faults.{IsBadLine, IsHeader, AreActions, Begins, IsFirstFault, no_line, no_header, bad_line, too_many, no_end, behind_end}
-use Rattle.call_trace.proofs.Found.{done, ok_is, action_found}
+use Rattle.call_trace.specs.Faults.{IsHeader, Begins, IsFirstFault, no_line, no_header, bad_line, too_many, no_end, behind_end}
+use Rattle.call_trace.proofs.Found.{ok_is, action_found}
 use Rattle.call_trace.proofs.Whole.{is_end_text, header_found}
-use Rattle.call_trace.proofs.Again.{action_again, header_again, with_lines, with_lines-err, actions_before}
+use Rattle.call_trace.proofs.Again.{header_again, with_lines, with_lines-err, actions_before}
 use Rattle.call_trace.proofs.BadLines.{action_fails}
 
 err_is : {A E : Type 0} (d e : E) (r : Result A E) → r ≡ Err d → r ≡ Err e → d ≡ e

@@ -98,50 +98,37 @@ fn every_proper_prefix_has_no_end(rt: HostRuntime) {
     }
 }
 
+/// The actor, the moment, the class and the packet of a line; a pace has neither of the last two.
+fn parts(line: &Line) -> (u32, u64, Option<Class>, &[u8]) {
+    match &line.action {
+        Action::Ask(Call::Enqueue { at, class, wire }) => {
+            (line.actor, *at, Some(*class), wire.as_slice())
+        }
+        Action::Ask(Call::Pace { at }) => (line.actor, *at, None, b"pace".as_slice()),
+        Action::Look => (line.actor, 0, None, b"look".as_slice()),
+    }
+}
+
 #[test]
 fn smallest_run(rt: HostRuntime) -> Result<(), Fail> {
+    let video = b"\x90\x60\0\x01\0\0\0\0\0\0\0\xaa\xbe\xde\0\x01\x31\0\0\0";
+    let audio = b"\x90\x6f\0\x01\0\0\0\0\0\0\0\xbb\xbe\xde\0\x01\x31\0\0\0";
+    let wanted: [(u32, u64, Option<Class>, &[u8]); 3] = [
+        (0, 1000, Some(Class::Video), video),
+        (0, 1100, Some(Class::Audio), audio),
+        (0, 2000, None, b"pace"),
+    ];
     let trace = read_trace(rt.alloc(), SMALLEST_RUN)
         .ok()
         .ok_or("it is a trace")?;
     assert_eq!(rt; trace.actors, 1);
     assert_eq!(rt; trace.lines.len(), 3);
-    match trace.lines.as_slice() {
-        [
-            Line {
-                actor: 0,
-                action: Action::Ask(
-                    Call::Enqueue {
-                        at: 1000,
-                        class: Class::Video,
-                        wire: video,
-                    },
-                ),
-            },
-            Line {
-                actor: 0,
-                action: Action::Ask(
-                    Call::Enqueue {
-                        at: 1100,
-                        class: Class::Audio,
-                        wire: audio,
-                    },
-                ),
-            },
-            Line {
-                actor: 0,
-                action: Action::Ask(Call::Pace { at: 2000 }),
-            },
-        ] => {
-            assert_eq!(rt;
-                video.as_slice(),
-                b"\x90\x60\0\x01\0\0\0\0\0\0\0\xaa\xbe\xde\0\x01\x31\0\0\0".as_slice()
-            );
-            assert_eq!(rt;
-                audio.as_slice(),
-                b"\x90\x6f\0\x01\0\0\0\0\0\0\0\xbb\xbe\xde\0\x01\x31\0\0\0".as_slice()
-            );
-        }
-        _ => assert!(rt; false, "the lines are others"),
+    for (line, want) in trace.lines.as_slice().iter().zip(wanted.iter()) {
+        let (actor, at, class, bytes) = parts(line);
+        assert_eq!(rt; actor, want.0);
+        assert_eq!(rt; at, want.1);
+        assert_eq!(rt; class, want.2);
+        assert_eq!(rt; bytes, want.3);
     }
     Ok(())
 }

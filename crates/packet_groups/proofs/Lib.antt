@@ -1,0 +1,4 @@
+mod Bounds
+mod OneDivision
+mod Placing
+mod Sums

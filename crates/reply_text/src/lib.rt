@@ -7,3 +7,6 @@ mod text;
 
 pub use seen::{Seen, SeenList};
 pub use text::write_history;
+
+#[cfg(test)]
+mod tests;

@@ -16,7 +16,7 @@ use Rattle.call_trace.specs.Plain.{Plain}
 use Rattle.call_trace.specs.Reading.{trace_at, fault}
 use Rattle.call_trace.specs.Ordered.{served_by, served, served-push, ordered, ordered-push, added}
 use Rattle.reply_text.specs.declared.seen.Seen.{Seen}
-use Rattle.run_top.specs.declared.top.TheConstants.{TOO_LONG}
+use Rattle.call_trace.specs.declared.fault.TheConstants.{TOO_LONG}
 use Rattle.run_top.specs.Replay.{looked, seen_from, of_actor, replayed, input}
 use Rattle.run_top.specs.Outcome.{PrintsPart}
 

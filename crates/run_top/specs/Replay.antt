@@ -16,7 +16,7 @@ use Rattle.call_trace.specs.Grammar.{IsTrace}
 use Rattle.call_trace.specs.Ordered.{ordered}
 use Rattle.reply_text.specs.declared.seen.Seen.{Seen}
 use Rattle.reply_text.specs.Text.{text}
-use Rattle.run_top.specs.declared.top.TheConstants.{TOO_LONG}
+use Rattle.call_trace.specs.declared.fault.TheConstants.{TOO_LONG}
 
 -- what an actor sees of a history
 abbrev pub seen_at : List Entry → ℕ → Seen

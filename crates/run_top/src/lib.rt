@@ -10,5 +10,8 @@ mod words;
 mod writing;
 
 pub use status::Status;
-pub use top::{TOO_LONG, run, run_plain};
+pub use top::{run, run_plain};
 pub use words::WordList;
+
+#[cfg(test)]
+mod tests;

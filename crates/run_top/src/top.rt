@@ -13,15 +13,12 @@ use crate::replay::replay;
 use crate::status::Status;
 use crate::words::{WordList, is_replay};
 use crate::writing::write_all;
-use call_trace::ReadTrace;
+use call_trace::{ReadTrace, TOO_LONG};
 use gcc_units::MOST_TRACE_BYTES;
 use run_io::{Gate, Sink, Source};
 use std::alloc::Global;
 use std::sync::Wait;
 use std::thread::Threads;
-
-/// The reason of a source that gives too many bytes.
-pub const TOO_LONG: u32 = 12;
 
 /// Serves the words of a command line, waits for nobody and always returns.
 ///

@@ -1,0 +1,129 @@
+//! Printed histories, written by hand.
+
+ghost use Rattle.std.specs.Prelude.{◌^◌, ◌<◌, length};
+
+use super::*;
+use gcc_units::{Bytes, Class};
+use send_core::{Call, Journal, START_RATE, Sender};
+use std::alloc::Global;
+use std::test::Fail;
+
+const VIDEO: &[u8] = b"\x90\x60\0\x01\0\0\0\0\0\0\0\xaa\xbe\xde\0\x01\x31\0\0\0";
+
+const AUDIO: &[u8] = b"\x90\x6f\0\x01\0\0\0\0\0\0\0\xbb\xbe\xde\0\x01\x31\0\0\0";
+
+const NO_EXTENSION: &[u8] = b"\x80\x60\0\x01\0\0\0\0\0\0\0\xaa";
+
+fn ask(alloc: Global, sender: &mut Sender, caller: u32, call: Call) -> Result<(), Fail> {
+    sender
+        .apply(alloc, caller, call)
+        .ok()
+        .ok_or("it is served")?;
+    Ok(())
+}
+
+fn packet(alloc: Global, at: u64, class: Class, wire: &[u8]) -> Result<Call, Fail>
+    requires { length wire.now < 2 ^ 32 }
+{
+    let wire = Bytes::from_vec(wire.to_vec(alloc)?);
+    Ok(Call::Enqueue { at, class, wire })
+}
+
+/// The printed history with glances of these actors, each at so many calls.
+fn printed(alloc: Global, journal: &Journal, glances: &[(u32, u32)]) -> Result<Bytes, Fail> {
+    let mut list = SeenList::new(alloc);
+    for (actor, calls) in glances {
+        let glance = Seen {
+            actor: *actor,
+            calls: *calls,
+            target: START_RATE,
+        };
+        list.push(glance).ok().ok_or("there is room")?;
+    }
+    Ok(write_history(alloc, journal, &list)?)
+}
+
+#[test]
+fn empty_trace(rt: HostRuntime) -> Result<(), Fail> {
+    let sender = Sender::new(rt.alloc())?;
+    let text = printed(rt.alloc(), sender.journal(), &[])?;
+    assert_eq!(rt;
+        text.as_slice(),
+        b"gcc-history 1\nend 0 0 300000\n".as_slice()
+    );
+    Ok(())
+}
+
+#[test]
+fn smallest_run_with_glances(rt: HostRuntime) -> Result<(), Fail> {
+    let alloc = rt.alloc();
+    let mut sender = Sender::new(alloc)?;
+    ask(
+        alloc,
+        &mut sender,
+        0,
+        packet(alloc, 1000, Class::Video, VIDEO)?,
+    )?;
+    ask(
+        alloc,
+        &mut sender,
+        15,
+        packet(alloc, 1100, Class::Audio, AUDIO)?,
+    )?;
+    ask(alloc, &mut sender, 0, Call::Pace { at: 2000 })?;
+    let text = printed(alloc, sender.journal(), &[(0, 0), (0, 2), (15, 3)])?;
+    assert_eq!(rt;
+        text.as_slice(),
+        b"gcc-history 1
+0 accepted 1000 0
+15 accepted 1100 1
+0 paced 2000 2 0:a:1:20 1:m:0:20
+0 glance 0 0 300000
+0 glance 1 2 300000
+15 glance 0 3 300000
+end 3 2 300000
+"
+            .as_slice()
+    );
+    Ok(())
+}
+
+#[test]
+fn refused_calls(rt: HostRuntime) -> Result<(), Fail> {
+    let alloc = rt.alloc();
+    let mut sender = Sender::new(alloc)?;
+    ask(
+        alloc,
+        &mut sender,
+        0,
+        packet(alloc, 0, Class::Video, NO_EXTENSION)?,
+    )?;
+    ask(
+        alloc,
+        &mut sender,
+        0,
+        Call::Pace {
+            at: 1_125_899_906_842_625,
+        },
+    )?;
+    ask(
+        alloc,
+        &mut sender,
+        0,
+        Call::Pace {
+            at: 1_125_899_906_842_624,
+        },
+    )?;
+    let text = printed(alloc, sender.journal(), &[])?;
+    assert_eq!(rt;
+        text.as_slice(),
+        b"gcc-history 1
+0 refused 0 wire 5
+0 refused 0 moment
+0 paced 1125899906842624 0
+end 3 0 300000
+"
+            .as_slice()
+    );
+    Ok(())
+}

@@ -1,6 +1,6 @@
 //! Lists that contracts see as their items and a promise of room.
 
-ghost use Rattle.std.specs.Prelude.{◌≡◌, ℕ, ◌+◌, ◌-◌, ◌^◌, ◌<◌, ◌≤◌, ◌==◌, [], ◌∷◌, ◌++◌, length, IfOk, IfErr, IsOk, OnOk, OnErr, slice_get, vec_len};
+ghost use Rattle.std.specs.Prelude.{◌≡◌, ℕ, ◌+◌, ◌-◌, ◌^◌, ◌<◌, ◌≤◌, ◌==◌, [], ◌∷◌, ◌++◌, length, IfSome, IfNone, IfOk, IfErr, IsOk, OnOk, OnErr, slice_get, vec_len};
 ghost use Rattle.std.specs.Option.{option_copied};
 ghost use Rattle.gcc_units.specs.Listed.{Listed, bare};
 
@@ -135,6 +135,18 @@ impl<T> Sequence<T> {
     {
         self.held.push_reserved(item);
         self.room -= 1;
+    }
+
+    /// Takes the last item out, whose place is spare from now on; `None` exactly where there is no
+    /// item.
+    pub fn pop(&mut self) -> Option<T>
+        ensures some { IfSome result (λ x. self.old.items ≡ self.new.items ++ x ∷ []) }
+        ensures spare { IfSome result (λ x. self.new.spare ≡ self.old.spare + 1) }
+        ensures none { IfNone result ((self.old.items ≡ []) × (self.new ≡ self.old)) }
+    {
+        let item = self.held.pop()?;
+        self.room += 1;
+        Some(item)
     }
 
     /// Gives up the promise of room, so that two lists of the same items are the same value.

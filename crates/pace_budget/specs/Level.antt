@@ -4,8 +4,8 @@ use Rattle.std.specs.Int.{int_min}
 use Rattle.gcc_units.specs.declared.limits.TheConstants.{GREATEST_RATE}
 use Rattle.pace_budget.specs.declared.bucket.TheConstants.{GREATEST_WINDOW}
 
--- What is done to a bucket. Time passes at a rate and under a window; a packet is sent for which the bucket has to be open;
--- an amount is taken that no packet had to wait for.
+-- What is done to a bucket. Time passes at a rate and under a window; a packet is sent for which the
+-- bucket has to be open; an amount is taken that no packet had to wait for.
 pub data Deed : Type 0 where
   Advance : (rate : ℕ) → (dt : ℕ) → (window : ℕ) → Deed
   Spend : (size : ℕ) → Deed
@@ -41,7 +41,8 @@ level deeds = fold int_min (inflow deeds) (starts deeds)
 abbrev pub IsAtMost : ℤ → ℤ → Type 0
 IsAtMost a b = a ≤ℤ b
 
--- the least over all starts: at most the inflow from the empty bucket on and each start, and one of these
+-- the least over all starts: at most the inflow from the empty bucket on, at most each start, and
+-- one of these
 pub record IsLeast (now : ℤ) (deeds : List Deed) : Type 0 where
   pub from_nothing : now ≤ℤ inflow deeds
   pub from_each : All (IsAtMost now) (starts deeds)

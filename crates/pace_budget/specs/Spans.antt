@@ -1,4 +1,5 @@
--- What is taken over a span is bounded: by what the bucket may hold at its start, what comes in, and one packet.
+-- What is taken over a span is bounded: by what the bucket may hold at its start, what comes in, and
+-- one packet.
 use Rattle.std.proofs.Common.{ℕ, ℤ, pos, ◌+◌, ◌*◌, ◌+ℤ◌, ◌<ℤ◌, ◌≤ℤ◌, List, [], ◌∷◌, ◌++◌, fold, arith}
 use Rattle.std.proofs.lemmas.Int.{ints, clamps}
 use Rattle.pace_budget.specs.Level.{Deed, Advance, Spend, Soft, bits}
@@ -11,7 +12,8 @@ Opens now (Advance rate dt window ∷ ds) = Opens (step now (Advance rate dt win
 Opens now (Spend size ∷ ds) = (pos 0 <ℤ now) × Opens (step now (Spend size)) ds
 Opens now (Soft amount ∷ ds) = Opens (step now (Soft amount)) ds
 
--- what the packets took that the bucket had to be open for, what time brought, and the size of the last of these packets
+-- what the packets took that the bucket had to be open for, what time brought, and the size of the
+-- last of these packets
 pub record Count : Type 0 where
   pub all : ℤ
   pub gained : ℕ

@@ -1,4 +1,5 @@
--- What follows of the words of `Waiting`: the next one is the least pair, and what is left is all but just that one.
+-- What follows of the words of `Waiting`: the next one is the least pair, and what is left is all but
+-- just that one.
 use Rattle.std.proofs.Common.{◌≡◌, inl, inr, ℕ, suc, zero, ◌≤◌, ◌==◌, Bool, true, false, not, Option, None, Some, IfSome, IsNone, ◌↔◌, List, [], ◌∷◌, length, All, AllPairs, Contains, filter, cond, fold, refl, ap, subst, arith, get_or}
 use Rattle.std.proofs.lemmas.Bool.Decides.{nat_tests}
 use Rattle.std.proofs.lemmas.List.Elements.{All-nil, All-cons, All-head, All-tail, All-contains, All-filter, Contains-append_right}

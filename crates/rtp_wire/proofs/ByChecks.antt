@@ -1,13 +1,13 @@
 -- Reading a packet, by the first check that fails.
-use Rattle.std.proofs.Common.{◌≡◌, ◌≢◌, ◌↔◌, ℕ, ◌+◌, ◌*◌, ◌/◌, ◌%◌, ◌<◌, ◌≤◌, ◌==◌, ◌⊎◌, inl, inr, Bool, if◌then◌else◌, nat_lt, List, length, take, drop, slice_index, length-take, length-drop, refl, ap, sym, subst, ◌∙◌, arith, Result, Ok, Err, eq-eqb}
+use Rattle.std.proofs.Common.{◌≡◌, ℕ, ◌+◌, ◌/◌, ◌%◌, ◌<◌, ◌≤◌, ◌==◌, inl, inr, if◌then◌else◌, nat_lt, List, length, drop, slice_index, length-take, length-drop, refl, ap, sym, subst, ◌∙◌, arith, Result, Ok, Err, eq-eqb}
 use Rattle.std.proofs.lemmas.Bool.{cases_eq, cases_lt, ne_eqb, lt-ltb, le-ltb}
 use Rattle.rtp_wire.specs.declared.packet.WireFault.{WireFault}
 use Rattle.rtp_wire.specs.declared.packet.WireFault.TheVariants.{Short, Long, Version, BadExtension, NoExtension}
 use Rattle.gcc_units.specs.declared.limits.TheConstants.{LEAST_PACKET, GREATEST_PACKET}
 use Rattle.rtp_wire.specs.Place.{field16, sources_end, extension_start, extension_len, extension, walk, place_of}
-use Rattle.rtp_wire.specs.Elements.{IsNumberAt, HasNoNumber, IsCutOff, IsOfOneKind}
+use Rattle.rtp_wire.specs.Elements.{IsOfOneKind}
 use Rattle.rtp_wire.specs.Checks.{Check, fixed_header, size, version, sources, extension_bit, extension_head, one_byte_form, extension_words, elements, number, order, Passes, fault_of, FailsFirst, IsPlace, IsByChecks}
-use Rattle.rtp_wire.proofs.ByElements.{Tells, tells, one_kind, ok_not_err}
+use Rattle.rtp_wire.proofs.ByElements.{Tells, tells, one_kind}
 
 -- the check of a number
 check_at : ℕ → Check
@@ -75,9 +75,9 @@ fails id bytes c before not = (c, record { fails = not; before = before }, refl)
 -- the last two checks
 by_walk : (id : ℕ) (bytes : List ℕ) (r : Result ℕ WireFault) → IsOfOneKind id (extension bytes) → PassBefore 9 id bytes
     → Tells id (extension_start bytes) (extension bytes) r → Outcome id bytes r
-by_walk id bytes (Ok place) kind before (at , n , e) = record {
+by_walk id bytes (Ok place) kind before (at, n, e) = record {
   passes = λ c.
-    more id bytes 10 number refl (more id bytes 9 elements refl before (kind.not_cut at n)) (at, n) c (omega (arith, order_bounds c));
+      more id bytes 10 number refl (more id bytes 9 elements refl before (kind.not_cut at n)) (at, n) c (omega (arith, order_bounds c));
   at = at;
   number = n;
   place_is = e;
@@ -164,8 +164,8 @@ outcome id bytes some few =
 
 decided : (id : ℕ) (bytes : List ℕ) (fault : WireFault) (r : Result ℕ WireFault) → Outcome id bytes r
     → ((check : Check) × FailsFirst check id bytes × (fault_of check ≡ fault)) → r ≡ Err fault
-decided id bytes fault (Ok place) told (check , f , e) = absurd (f.fails (told.passes check))
-decided id bytes fault (Err other) (d , g , ge) (check , f , e) = elim (cases_lt (order check) (order d)) [
+decided id bytes fault (Ok place) told (check, f, e) = absurd (f.fails (told.passes check))
+decided id bytes fault (Err other) (d, g, ge) (check, f, e) = elim (cases_lt (order check) (order d)) [
   | inl lt ↦ absurd (f.fails (g.before check lt))
   | inr ge' ↦ elim (cases_lt (order d) (order check)) [
     | inl lt ↦ absurd (g.fails (f.before d lt))
@@ -175,14 +175,14 @@ decided id bytes fault (Err other) (d , g , ge) (check , f , e) = elim (cases_lt
 
 placed : (id : ℕ) (bytes : List ℕ) (place : ℕ) (r : Result ℕ WireFault) → IsOfOneKind id (extension bytes) → Outcome id bytes r → IsPlace id bytes place → r ≡ Ok place
 placed id bytes place (Ok other) kind told p = ap Ok (told.place_is ∙ ap (λ k. extension_start bytes + k) (kind.same told.at p.at told.number p.number) ∙ sym p.place_is)
-placed id bytes place (Err fault) kind (d , g , e) p = absurd (g.fails (p.passes d))
+placed id bytes place (Err fault) kind (d, g, e) p = absurd (g.fails (p.passes d))
 
 pub by_checks : (id : ℕ) (bytes : List ℕ) → 1 ≤ id → id ≤ 14 → IsByChecks id bytes
 by_checks id bytes some few = record {
   faults = λ fault.
-    (λ e. subst (λ r. Outcome id bytes r) e (outcome id bytes some few), decided id bytes fault (place_of id bytes) (outcome id bytes some few));
+      (λ e. subst (λ r. Outcome id bytes r) e (outcome id bytes some few), decided id bytes fault (place_of id bytes) (outcome id bytes some few));
   places = λ place.
-    (λ e. subst (λ r. Outcome id bytes r) e (outcome id bytes some few), placed id bytes place (place_of id bytes) (one_kind id (extension bytes) some few) (outcome id bytes some few));
+      (λ e. subst (λ r. Outcome id bytes r) e (outcome id bytes some few), placed id bytes place (place_of id bytes) (one_kind id (extension bytes) some few) (outcome id bytes some few));
 }
 
 -- ---- where a place can be
@@ -190,9 +190,8 @@ by_checks id bytes some few = record {
 pub place_bounds : (id : ℕ) (bytes : List ℕ) (place : ℕ) → 1 ≤ id → id ≤ 14 → place_of id bytes ≡ Ok place
     → (16 ≤ place) × (place + 2 ≤ length bytes) × (length bytes ≤ GREATEST_PACKET)
 place_bounds id bytes place some few e =
-    let p : IsPlace id bytes place = subst (λ r. Outcome id bytes r) e (outcome id bytes some few) in
-    (
-        omega (arith, p.place_is),
-        omega (arith, p.place_is, p.number.place, p.passes extension_words, length-take (extension_len bytes) (drop (extension_start bytes) bytes), length-drop (extension_start bytes) bytes),
-        p.passes size
+    let p : IsPlace id bytes place = subst (λ r. Outcome id bytes r) e (outcome id bytes some few) in (
+      omega (arith, p.place_is),
+      omega (arith, p.place_is, p.number.place, p.passes extension_words, length-take (extension_len bytes) (drop (extension_start bytes) bytes), length-drop (extension_start bytes) bytes),
+      p.passes size,
     )

@@ -1,5 +1,5 @@
 -- The walk tells the kind of an extension, and each extension is of one kind.
-use Rattle.std.proofs.Common.{◌≡◌, ◌≢◌, ℕ, zero, suc, ◌+◌, ◌-◌, ◌*◌, ◌/◌, ◌%◌, ◌<◌, ◌≤◌, ◌⊎◌, inl, inr, List, [], ◌∷◌, ◌++◌, length, take, drop, get_or, refl, ap, sym, subst, ◌∙◌, arith, Result, Ok, Err, append_assoc, length-append, length-take, length-take-le, take-append-drop}
+use Rattle.std.proofs.Common.{◌≡◌, ◌≢◌, ℕ, zero, suc, ◌+◌, ◌-◌, ◌*◌, ◌/◌, ◌%◌, ◌<◌, ◌≤◌, ◌⊎◌, inl, inr, List, [], ◌∷◌, ◌++◌, length, take, drop, refl, ap, sym, subst, ◌∙◌, arith, Result, Ok, Err, append_assoc, length-append, length-take-le, take-append-drop}
 use Rattle.std.proofs.Math.Seq.{drop-append_seam}
 use Rattle.std.proofs.lemmas.Bool.{cases_eq, cases_lt}
 use Rattle.std.specs.List.{flat_map, AllByRecursion}
@@ -30,12 +30,11 @@ goes_on id p xs rest other c = record {
 
 pub tells_on : (id at : ℕ) (p : Piece) (xs : List ℕ) (r : Result ℕ WireFault) → IsOther id p
     → Tells id (at + length (piece_bytes p)) xs r → Tells id at (piece_bytes p ++ xs) r
-tells_on id at p xs (Ok place) other (k , n , e) =
-    (
-        length (piece_bytes p) + k,
-        record { high = n.high; low = n.low; rest = n.rest; behind = goes_on id p xs _ other n.behind; place = omega (arith, n.place, length-append (piece_bytes p) xs) },
-        omega arith
-    )
+tells_on id at p xs (Ok place) other (k, n, e) = (
+  length (piece_bytes p) + k,
+  record { high = n.high; low = n.low; rest = n.rest; behind = goes_on id p xs _ other n.behind; place = omega (arith, n.place, length-append (piece_bytes p) xs) },
+  omega arith,
+)
 tells_on id at p xs (Err NoExtension) other t = record { rest = t.rest; behind = goes_on id p xs _ other t.behind; ends = t.ends }
 tells_on id at p xs (Err BadExtension) other t = record { head = t.head; rest = t.rest; behind = goes_on id p xs _ other t.behind; low = t.low; high = t.high; passes_end = t.passes_end }
 tells_on id at p xs (Err Short) other t = t
@@ -189,7 +188,7 @@ apart : NoExtension ≡ BadExtension → ⊥
 apart same = cc
 
 one_of : (id at : ℕ) (xs : List ℕ) (r : Result ℕ WireFault) → Tells id at xs r → ((k : ℕ) × IsNumberAt id xs k) ⊎ (HasNoNumber id xs ⊎ IsCutOff id xs)
-one_of id at xs (Ok place) (k , n , e) = inl (k , n)
+one_of id at xs (Ok place) (k, n, e) = inl (k, n)
 one_of id at xs (Err NoExtension) t = inr (inl t)
 one_of id at xs (Err BadExtension) t = inr (inr t)
 one_of id at xs (Err Short) t = absurd t
@@ -203,6 +202,6 @@ one_kind id xs some few = record {
   not_cut = λ at n h. ok_not_err (walk id 0 0 xs) (0 + at) BadExtension (number_walks id 0 at xs some few n) (cut_walks id 0 xs h);
   not_both = λ h k. apart (one_fault (walk id 0 0 xs) NoExtension BadExtension (none_walks id 0 xs h) (cut_walks id 0 xs k));
   same = λ at also n m.
-    let e : 0 + at ≡ 0 + also = one_place (walk id 0 0 xs) (0 + at) (0 + also) (number_walks id 0 at xs some few n) (number_walks id 0 also xs some few m) in
-    omega arith;
+      let e : 0 + at ≡ 0 + also = one_place (walk id 0 0 xs) (0 + at) (0 + also) (number_walks id 0 at xs some few n) (number_walks id 0 also xs some few m) in
+      omega arith;
 }

@@ -1,5 +1,5 @@
 -- A packet that is put at the end in three parts.
-use Rattle.std.proofs.Common.{◌≡◌, ◌≢◌, ℕ, ◌+◌, ◌≤◌, List, ◌++◌, length, take, drop, refl, ap, sym, ◌∙◌, arith, append_assoc, drop-drop, length-append, length-take, length-drop}
+use Rattle.std.proofs.Common.{◌≡◌, ℕ, ◌+◌, ◌≤◌, List, ◌++◌, length, take, drop, refl, ap, ◌∙◌, arith, append_assoc, drop-drop, length-append, length-take, length-drop}
 use Rattle.std.specs.Int.{w16, to_be_bytes}
 use Rattle.rtp_wire.specs.Stamp.{stamped}
 

@@ -15,7 +15,7 @@ field32 at bytes = big_number 4 (drop at bytes)
 
 -- where the list of contributing sources ends: so many of four bytes each stand behind the fixed header
 abbrev pub sources_end : List ℕ → ℕ
-sources_end bytes = 12 + 4 * (slice_index bytes 0 % 16)
+sources_end bytes = LEAST_PACKET + 4 * (slice_index bytes 0 % 16)
 
 -- where the extension's elements begin, behind its profile and its length, and how many bytes they have
 abbrev pub extension_start : List ℕ → ℕ

@@ -16,3 +16,6 @@ pub use laws::{
 };
 pub use packet::{Wire, WireFault, read_wire};
 pub use wires::WireList;
+
+#[cfg(test)]
+mod tests;

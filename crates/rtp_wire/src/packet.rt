@@ -35,13 +35,14 @@ pub struct Wire<'a> {
 
 impl<'a> Model for Wire<'a> {
     ghost use Rattle.std.specs.Prelude.{◌+◌, ◌≤◌, length};
+    ghost use Rattle.gcc_units.specs.declared.limits.TheConstants.{LEAST_PACKET};
     ghost use Rattle.rtp_wire.specs.Packet.{Packet};
 
     ghost Value = { Packet };
 
     ghost view = { λ w. record { bytes = w.bytes.now; place = w.place } };
 
-    ghost invariant = { λ w. (12 ≤ w.place) × (w.place + 2 ≤ length w.bytes.now) };
+    ghost invariant = { λ w. (LEAST_PACKET ≤ w.place) × (w.place + 2 ≤ length w.bytes.now) };
 }
 
 impl<'a> Wire<'a> {
@@ -79,8 +80,8 @@ impl<'a> Wire<'a> {
 /// begins at `start`.
 fn number_place(extension: &[u8], start: usize, id: u8) -> Result<usize, WireFault>
     requires id { id ≤ 14 }
-    requires start { start ≤ 80 }
-    requires len { length extension.now ≤ 1500 }
+    requires start { start ≤ 76 }
+    requires len { length extension.now ≤ GREATEST_PACKET }
     ensures { result ≡ walk id start 0 extension.now }
 {
     let mut rest = extension;
@@ -128,7 +129,7 @@ fn place_in(bytes: &[u8], id: u8) -> Result<usize, WireFault>
     if bytes[0] / 64 != 2 {
         return Err(WireFault::Version);
     }
-    let sources_end = 12 + 4 * (bytes[0] as usize % 16);
+    let sources_end = LEAST_PACKET as usize + 4 * (bytes[0] as usize % 16);
     if bytes.len() < sources_end {
         return Err(WireFault::Short);
     }

@@ -107,7 +107,11 @@ impl WireList {
     pub fn push_stamped(&mut self, wire: &Wire<'_>, low: u16)
         requires room { 0 < self.old.room }
         requires bytes { length wire.now.bytes ≤ self.old.byte_room }
-        ensures { self.new ≡ record { items = self.old.items ++ stamped wire.now.bytes wire.now.place low ∷ []; room = self.old.room - 1; byte_room = self.old.byte_room - length wire.now.bytes } }
+        ensures { self.new ≡ record {
+          items = self.old.items ++ stamped wire.now.bytes wire.now.place low ∷ [];
+          room = self.old.room - 1;
+          byte_room = self.old.byte_room - length wire.now.bytes;
+        } }
     {
         let packet = wire.bytes();
         put_stamped(&mut self.bytes, packet, wire.place() as usize, low);
@@ -123,7 +127,11 @@ impl WireList {
         requires bytes { PADDING_PACKET ≤ self.old.byte_room }
         requires id_low { 1 ≤ id }
         requires id_high { id ≤ 14 }
-        ensures { self.new ≡ record { items = self.old.items ++ padding_packet low id ∷ []; room = self.old.room - 1; byte_room = self.old.byte_room - PADDING_PACKET } }
+        ensures { self.new ≡ record {
+          items = self.old.items ++ padding_packet low id ∷ [];
+          room = self.old.room - 1;
+          byte_room = self.old.byte_room - PADDING_PACKET;
+        } }
     {
         put_padding(&mut self.bytes, low, id);
         self.ends.push_reserved(self.bytes.len());

@@ -10,8 +10,8 @@ pub record SourceState : Type 0 where
   pub reads : ℕ
   pub faults : ℕ
 
--- what was written, how many bytes there is room for, how many a write takes at most, which writes fail, how many writes
--- there were, and how many of them failed
+-- what was written, how many more bytes there is room for, how many a write takes at most, which
+-- writes fail, how many writes there were, and how many of them failed
 pub record SinkState : Type 0 where
   pub written : List ℕ
   pub room : ℕ

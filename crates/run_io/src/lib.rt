@@ -13,3 +13,6 @@ mod streams;
 pub use memory::{MemSink, MemSource};
 pub use outside::{Failed, Gate, OpenGate, Sink, Source};
 pub use streams::{StdSink, StdSource};
+
+#[cfg(test)]
+mod tests;

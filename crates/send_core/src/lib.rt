@@ -15,3 +15,6 @@ pub use call::{Answer, ApplyFault, Call, Cause, Entry, Reply};
 pub use journal::Journal;
 pub use sender::Sender;
 pub use settings::START_RATE;
+
+#[cfg(test)]
+mod tests;

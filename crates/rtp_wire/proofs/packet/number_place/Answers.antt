@@ -1,14 +1,13 @@
-use Rattle.std.proofs.Common.{◌≡◌, ℕ, ◌+◌, ◌-◌, ◌*◌, ◌%◌, ◌<◌, ◌≤◌, length, drop, get_or, sym, ◌∙◌, arith}
+use Rattle.std.proofs.Common.{◌≡◌, ◌<◌, length, sym, ◌∙◌, arith}
 use Rattle.std.proofs.lemmas.Grind.{common_steps}
 use Rattle.rtp_wire.proofs.Walking.{pad, stops_low, stops_high, cut_off, is_there, goes_over, ends}
 use Rattle.rtp_wire.proofs.packet.number_place.Goals as goal
 
 pub loop-rest-preserved-then-first-eq0 : goal.loop-rest-preserved-then-first-eq0
 loop-rest-preserved-then-first-eq0 c =
-    let some : 0 < length c.loop-rest.rest.now = grind (arith, common_steps) in
-    (
-        rw c.split_at.ensures.back (sym (pad c.args.id c.loop-rest.at c.loop-rest.rest.now some c.if-first-eq0.true) ∙ c.loop-rest.invariant.0),
-        omega arith
+    let some : 0 < length c.loop-rest.rest.now = grind (arith, common_steps) in (
+      rw c.split_at.ensures.back (sym (pad c.args.id c.loop-rest.at c.loop-rest.rest.now some c.if-first-eq0.true) ∙ c.loop-rest.invariant.0),
+      omega arith,
     )
 
 pub returns-then-first-lt16 : goal.returns-then-first-lt16
@@ -33,12 +32,11 @@ returns-then-first-id c =
 
 pub loop-rest-preserved : goal.loop-rest-preserved
 loop-rest-preserved c =
-    let some : 0 < length c.loop-rest.rest.now = grind (arith, common_steps) in
-    (
-        rw (c.split_at-in-loop-rest.ensures.back, c.split_at.ensures.back)
-        (sym (goes_over c.args.id c.loop-rest.at c.loop-rest.rest.now some c.if-first-lt16.false c.if-first-ge240.false (omega arith) c.if-first-id.false)
-        ∙ c.loop-rest.invariant.0),
-        omega arith
+    let some : 0 < length c.loop-rest.rest.now = grind (arith, common_steps) in (
+      rw (c.split_at-in-loop-rest.ensures.back, c.split_at.ensures.back)
+          (sym (goes_over c.args.id c.loop-rest.at c.loop-rest.rest.now some c.if-first-lt16.false c.if-first-ge240.false (omega arith) c.if-first-id.false)
+          ∙ c.loop-rest.invariant.0),
+      omega arith,
     )
 
 pub returns : goal.returns

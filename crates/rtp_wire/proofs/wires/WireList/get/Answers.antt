@@ -1,7 +1,6 @@
-use Rattle.std.proofs.Common.{◌≡◌, ◌<◌, ◌≤◌, ◌-◌, ℕ, List, length, get_or, take, drop, Some, sym, ◌∙◌, ap, arith, rules}
+use Rattle.std.proofs.Common.{◌≡◌, ◌<◌, ◌≤◌, ◌-◌, ℕ, List, length, get_or, take, drop, Some, sym, ap, arith}
 use Rattle.std.proofs.lemmas.Option.{slice_get_past}
 use Rattle.std.specs.List.{slice_get}
-use Rattle.rtp_wire.specs.Wires.{Wires}
 use Rattle.rtp_wire.specs.Starts.{start_at}
 use Rattle.rtp_wire.specs.Cutting.{pieces, AreEnds}
 use Rattle.rtp_wire.proofs.Pieces.{length-pieces, slice_get-pieces, in_order}
@@ -33,13 +32,13 @@ slice_bounds-result-count c =
 pub slice_bounds-result-start : goal.slice_bounds-result-start
 slice_bounds-result-start c =
     let b = bounds c.self.inside.ends.items c.self.inside.bytes.items c.as_slice-ends.result.now c.args.k c.start_of.result
-        c.self.invariant.ends c.as_slice-ends.ensures.value c.if-k-ends.false c.start_of.ensures in
+    c.self.invariant.ends c.as_slice-ends.ensures.value c.if-k-ends.false c.start_of.ensures in
     omega (arith, b.0, b.1, ap length c.as_slice.ensures.value)
 
 pub slice_bounds-result-end : goal.slice_bounds-result-end
 slice_bounds-result-end c =
     let b = bounds c.self.inside.ends.items c.self.inside.bytes.items c.as_slice-ends.result.now c.args.k c.start_of.result
-        c.self.invariant.ends c.as_slice-ends.ensures.value c.if-k-ends.false c.start_of.ensures in
+    c.self.invariant.ends c.as_slice-ends.ensures.value c.if-k-ends.false c.start_of.ensures in
     omega (arith, b.0, b.1, ap length c.as_slice.ensures.value)
 
 pub returns : goal.returns

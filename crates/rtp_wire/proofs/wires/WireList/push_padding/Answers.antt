@@ -1,4 +1,4 @@
-use Rattle.std.proofs.Common.{◌≡◌, ℕ, ◌+◌, ◌-◌, ◌≤◌, [], ◌∷◌, ◌++◌, length, vec_len, ap, sym, ◌∙◌, arith, rules, refl, length-append}
+use Rattle.std.proofs.Common.{◌≡◌, ◌+◌, ◌-◌, [], ◌∷◌, ◌++◌, length, ap, ◌∙◌, arith, rules, refl, length-append}
 use Rattle.rtp_wire.specs.Wires.{Wires}
 use Rattle.rtp_wire.specs.Stamp.{padding_packet}
 use Rattle.rtp_wire.proofs.Pieces.{pushed_ends, pushed_pieces}
@@ -14,12 +14,12 @@ invariant_of-self c =
     let room_is : c.self.inside.room ≡ c.args.self.now.room = ap (λ (w : Wires). w.room) c.self.view_is in
     let byte_room_is : c.self.inside.byte_room ≡ c.args.self.now.byte_room = ap (λ (w : Wires). w.byte_room) c.self.view_is in
     record {
-        ends = pushed_ends c.self.inside.ends.items old packet c.push_reserved.new.self.items c.put_padding.new.bytes.items
-            c.self.invariant.ends c.put_padding.ensures.items
-            (c.push_reserved.ensures.items ∙ ap (λ n. c.self.inside.ends.items ++ n ∷ []) at_end);
-        room = omega arith;
-        few = omega arith;
-        byte_room = omega arith;
+      ends = pushed_ends c.self.inside.ends.items old packet c.push_reserved.new.self.items c.put_padding.new.bytes.items
+          c.self.invariant.ends c.put_padding.ensures.items
+          (c.push_reserved.ensures.items ∙ ap (λ n. c.self.inside.ends.items ++ n ∷ []) at_end);
+      room = omega arith;
+      few = omega arith;
+      byte_room = omega arith;
     }
 
 pub returns : goal.returns
@@ -27,5 +27,5 @@ returns c =
     let at_end : c.len.result ≡ length c.put_padding.new.bytes.items = search rules in
     rw (← c.self.view_is)
     (pushed_pieces c.self.inside.ends.items c.self.inside.bytes.items (padding_packet c.args.low c.args.id) c.push_reserved.new.self.items c.put_padding.new.bytes.items
-        (c.self.inside.room - 1) (c.self.inside.byte_room - 256) c.self.invariant.ends c.put_padding.ensures.items
-        (c.push_reserved.ensures.items ∙ ap (λ n. c.self.inside.ends.items ++ n ∷ []) at_end))
+    (c.self.inside.room - 1) (c.self.inside.byte_room - 256) c.self.invariant.ends c.put_padding.ensures.items
+    (c.push_reserved.ensures.items ∙ ap (λ n. c.self.inside.ends.items ++ n ∷ []) at_end))

@@ -1,4 +1,4 @@
-use Rattle.std.proofs.Common.{◌≡◌, ℕ, ◌+◌, ◌-◌, ◌≤◌, [], ◌∷◌, ◌++◌, length, vec_len, ap, sym, ◌∙◌, arith, rules, length-append}
+use Rattle.std.proofs.Common.{◌≡◌, ◌+◌, ◌-◌, [], ◌∷◌, ◌++◌, length, ap, ◌∙◌, arith, rules, length-append}
 use Rattle.rtp_wire.specs.Wires.{Wires}
 use Rattle.rtp_wire.specs.Stamp.{stamped}
 use Rattle.rtp_wire.proofs.Pieces.{pushed_ends, pushed_pieces}
@@ -16,12 +16,12 @@ invariant_of-self c =
     let room_is : c.self.inside.room ≡ c.args.self.now.room = ap (λ (w : Wires). w.room) c.self.view_is in
     let byte_room_is : c.self.inside.byte_room ≡ c.args.self.now.byte_room = ap (λ (w : Wires). w.byte_room) c.self.view_is in
     record {
-        ends = pushed_ends c.self.inside.ends.items old stamp c.push_reserved.new.self.items c.put_stamped.new.bytes.items
-            c.self.invariant.ends c.put_stamped.ensures.items
-            (c.push_reserved.ensures.items ∙ ap (λ n. c.self.inside.ends.items ++ n ∷ []) at_end);
-        room = omega arith;
-        few = omega arith;
-        byte_room = omega arith;
+      ends = pushed_ends c.self.inside.ends.items old stamp c.push_reserved.new.self.items c.put_stamped.new.bytes.items
+          c.self.invariant.ends c.put_stamped.ensures.items
+          (c.push_reserved.ensures.items ∙ ap (λ n. c.self.inside.ends.items ++ n ∷ []) at_end);
+      room = omega arith;
+      few = omega arith;
+      byte_room = omega arith;
     }
 
 pub returns : goal.returns
@@ -29,5 +29,5 @@ returns c =
     let at_end : c.len.result ≡ length c.put_stamped.new.bytes.items = search rules in
     rw (← c.self.view_is, ← c.bytes-packet.ensures, ← c.place.ensures.place)
     (pushed_pieces c.self.inside.ends.items c.self.inside.bytes.items (stamped c.bytes-packet.result.now c.place.result c.args.low) c.push_reserved.new.self.items c.put_stamped.new.bytes.items
-        (c.self.inside.room - 1) (c.self.inside.byte_room - length c.bytes-packet.result.now) c.self.invariant.ends c.put_stamped.ensures.items
-        (c.push_reserved.ensures.items ∙ ap (λ n. c.self.inside.ends.items ++ n ∷ []) at_end))
+    (c.self.inside.room - 1) (c.self.inside.byte_room - length c.bytes-packet.result.now) c.self.invariant.ends c.put_stamped.ensures.items
+    (c.push_reserved.ensures.items ∙ ap (λ n. c.self.inside.ends.items ++ n ∷ []) at_end))

@@ -1,4 +1,4 @@
-use Rattle.std.proofs.Common.{◌≡◌, arith}
+use Rattle.std.proofs.Common.{arith}
 use Rattle.rtp_wire.proofs.wires.WireList.reserve.Goals as goal
 
 pub invariant_of-self-2 : goal.invariant_of-self-2

@@ -1,0 +1,11 @@
+pub mod Lines
+pub mod Loop
+pub mod Numbers
+pub mod Parts
+pub mod Found
+pub mod Whole
+pub mod Again
+pub mod Merging
+pub mod BadLines
+pub mod Faulty
+pub mod Cutting

@@ -1,0 +1,179 @@
+-- Reading a trace line by line, and a line field by field, up to the first that is bad.
+use Rattle.std.specs.Prelude.{◌≡◌, ℕ, ◌+◌, nat_lt, nat_le, ◌==◌, ◌&&◌, Bool, if◌then◌else◌, List, [], ◌∷◌, length, take, drop, codes, nat_eq, Option, Some, None, Result, Ok, Err}
+use Rattle.std.specs.Cmp.Lexicographic.{pointwise}
+use Rattle.hex.specs.declared.error.FromHexError.{FromHexError}
+use Rattle.hex.specs.Hex.{decode_of}
+use Rattle.gcc_units.specs.declared.class.Class.{Class}
+use Rattle.gcc_units.specs.declared.class.Class.TheVariants.{Audio, Retransmission, Video, Fec}
+use Rattle.gcc_units.specs.declared.limits.TheConstants.{MOST_ACTORS}
+use Rattle.gcc_units.specs.Listed.{Listed, bare}
+use Rattle.send_core.specs.declared.call.Call.TheVariants.{Enqueue, Pace}
+use Rattle.call_trace.specs.declared.fault.TheConstants.{NO_HEADER, NO_ACTOR, NO_VERB, NO_MOMENT, NO_HEX, TOO_MANY_LINES, NO_END, BEHIND_END}
+use Rattle.call_trace.specs.declared.fault.Bad.{Bad}
+use Rattle.call_trace.specs.declared.fault.Bad.TheVariants as bad
+use Rattle.call_trace.specs.declared.fault.TraceFault.{TraceFault}
+use Rattle.call_trace.specs.declared.fault.ReadTrace.{ReadTrace}
+use Rattle.call_trace.specs.declared.fault.ReadTrace.TheVariants as read_trace
+use Rattle.call_trace.specs.declared.trace.Line.{Line}
+use Rattle.call_trace.specs.declared.trace.Action.TheVariants.{Ask, Look}
+use Rattle.call_trace.specs.declared.trace.Trace.{Trace}
+use Rattle.call_trace.specs.Plain.{Plain, plain}
+use Rattle.call_trace.specs.Fields.{field, behind, lines_of, number_of}
+
+infixl 10 ◌>>=◌
+abbrev pub ◌>>=◌ : {A B E : Type 0} → Result A E → (A → Result B E) → Result B E
+(Ok x) >>= f = f x
+(Err e) >>= f = Err e
+
+-- what a function answered is what reading gives, unless memory ran out
+abbrev pub Fails : {X : Type 0} → Bad → Result X ℕ → Type 0
+Fails bad.Memory read = Unit {0}
+Fails (bad.Reason r) read = read ≡ Err r
+
+abbrev pub Gives : {X : Type 0} → Result X Bad → Result X ℕ → Type 0
+Gives (Ok x) read = read ≡ Ok x
+Gives (Err e) read = Fails e read
+
+-- ---- fields
+
+abbrev pub or_reason : {A : Type 0} → ℕ → Option A → Result A ℕ
+or_reason r (Some x) = Ok x
+or_reason r None = Err r
+
+abbrev pub below : ℕ → ℕ → Result ℕ ℕ
+below actors n = if nat_lt n actors then Ok n else Err NO_ACTOR
+
+abbrev pub actor_at : ℕ → List ℕ → Result ℕ ℕ
+actor_at actors text = or_reason NO_ACTOR (number_of text) >>= below actors
+
+abbrev pub moment_at : List ℕ → Result ℕ ℕ
+moment_at text = or_reason NO_MOMENT (number_of text)
+
+abbrev pub class_of : ℕ → Result Class ℕ
+class_of letter =
+    if letter == 97 then Ok Audio
+    else if letter == 114 then Ok Retransmission
+    else if letter == 118 then Ok Video
+    else if letter == 102 then Ok Fec
+    else Err NO_VERB
+
+abbrev pub class_at : List ℕ → Result Class ℕ
+class_at [] = Err NO_VERB
+class_at (letter ∷ []) = class_of letter
+class_at (a ∷ b ∷ more) = Err NO_VERB
+
+abbrev pub decoded : Result (List ℕ) FromHexError → Result (Listed ℕ) ℕ
+decoded (Ok bytes) = Ok (bare bytes)
+decoded (Err e) = Err NO_HEX
+
+abbrev pub hex_at : List ℕ → Result (Listed ℕ) ℕ
+hex_at [] = Err NO_HEX
+hex_at (b ∷ text) = decoded (decode_of (b ∷ text))
+
+-- ---- lines
+
+unfoldable pub enqueue_at : ℕ → List ℕ → Result Line ℕ
+enqueue_at actors rest = do
+  actor ← actor_at actors (field rest)
+  at ← moment_at (field (behind rest))
+  class ← class_at (field (behind (behind rest)))
+  wire ← hex_at (behind (behind (behind rest)))
+  Ok (record { actor = actor; action = Ask (Enqueue at class wire) })
+
+unfoldable pub pace_at : ℕ → List ℕ → Result Line ℕ
+pace_at actors rest = do
+  actor ← actor_at actors (field rest)
+  at ← moment_at (behind rest)
+  Ok (record { actor = actor; action = Ask (Pace at) })
+
+unfoldable pub glance_at : ℕ → List ℕ → Result Line ℕ
+glance_at actors rest = do
+  actor ← actor_at actors rest
+  Ok (record { actor = actor; action = Look })
+
+abbrev pub verb_at : ℕ → ℕ → List ℕ → Result Line ℕ
+verb_at actors letter rest =
+    if letter == 69 then enqueue_at actors rest
+    else if letter == 80 then pace_at actors rest
+    else if letter == 71 then glance_at actors rest
+    else Err NO_VERB
+
+abbrev pub fields_at : ℕ → List ℕ → List ℕ → Result Line ℕ
+fields_at actors [] rest = Err NO_VERB
+fields_at actors (letter ∷ []) rest = verb_at actors letter rest
+fields_at actors (a ∷ b ∷ more) rest = Err NO_VERB
+
+-- a line of action, or the reason of its first bad field
+unfoldable pub action_at : ℕ → List ℕ → Result Line ℕ
+action_at actors line = fields_at actors (field line) (behind line)
+
+abbrev pub fault : ℕ → ℕ → TraceFault
+fault line reason = record { line = line; reason = reason }
+
+abbrev pub at_line : {A : Type 0} → ℕ → Result A ℕ → Result A TraceFault
+at_line k (Ok x) = Ok x
+at_line k (Err r) = Err (fault k r)
+
+-- the line without anything else
+abbrev pub is_end : List ℕ → Bool
+is_end line = pointwise nat_eq line (codes "end")
+
+-- behind the end nothing may stand, neither lines nor a rest
+abbrev pub ended : ℕ → List (List ℕ) → List ℕ → Result (List Line) TraceFault
+ended k [] [] = Ok []
+ended k (line ∷ lines) rest = Err (fault k BEHIND_END)
+ended k [] (b ∷ rest) = Err (fault k BEHIND_END)
+
+-- the lines of action, the first of them line k, up to the end; no more than most
+unfoldable pub actions_at : ℕ → ℕ → ℕ → List (List ℕ) → List ℕ → Result (List Line) TraceFault
+actions_at most actors k [] rest = Err (fault k NO_END)
+actions_at most actors k (line ∷ lines) rest =
+    if is_end line then ended (k + 1) lines rest
+    else if nat_lt (most + 1) k then Err (fault k TOO_MANY_LINES)
+    else (do
+      first ← at_line k (action_at actors line)
+      others ← actions_at most actors (k + 1) lines rest
+      Ok (first ∷ others))
+
+-- the header's bytes before the number of actors
+abbrev pub title : List ℕ
+title = codes "gcc-trace 1 "
+
+abbrev pub from_one : ℕ → Result ℕ ℕ
+from_one n = if nat_le 1 n && nat_le n MOST_ACTORS then Ok n else Err NO_HEADER
+
+-- the number of actors
+unfoldable pub header_at : List ℕ → Result ℕ ℕ
+header_at line =
+    if pointwise nat_eq (take (length title) line) title then or_reason NO_HEADER (number_of (drop (length title) line)) >>= from_one
+    else Err NO_HEADER
+
+-- behind the first line
+unfoldable pub lines_at : ℕ → List (List ℕ) → List ℕ → Result Plain TraceFault
+lines_at most [] rest = Err (fault 1 NO_END)
+lines_at most (line ∷ lines) rest = do
+  actors ← at_line 1 (header_at line)
+  read ← actions_at most actors 2 lines rest
+  Ok (record { actors = actors; lines = read })
+
+-- the trace that bytes spell, or their first fault; most is how many lines of action there may be
+abbrev pub trace_at : ℕ → List ℕ → Result Plain TraceFault
+trace_at most bytes = lines_at most (lines_of bytes).whole (lines_of bytes).rest
+
+-- ---- what the reader answers
+
+abbrev pub FailsTrace : {X : Type 0} → ReadTrace → Result X TraceFault → Type 0
+FailsTrace read_trace.NoMemory read = Unit {0}
+FailsTrace (read_trace.Fault f) read = read ≡ Err f
+
+abbrev pub GivesLines : Result (Listed Line) ReadTrace → Result (List Line) TraceFault → Type 0
+GivesLines (Ok lines) read = (read ≡ Ok lines.items) × (lines ≡ bare lines.items)
+GivesLines (Err e) read = FailsTrace e read
+
+abbrev pub GivesTrace : Result Trace ReadTrace → Result Plain TraceFault → Type 0
+GivesTrace (Ok trace) read = read ≡ Ok (plain trace)
+GivesTrace (Err e) read = FailsTrace e read
+
+abbrev pub located : ℕ → Bad → ReadTrace
+located line (bad.Reason reason) = read_trace.Fault (fault line reason)
+located line bad.Memory = read_trace.NoMemory

@@ -1,0 +1,55 @@
+//! Why bytes are no trace.
+
+/// The first line is no header.
+pub const NO_HEADER: u32 = 1;
+
+/// The actor is no number, or not below the number of actors.
+pub const NO_ACTOR: u32 = 2;
+
+/// The verb or the class is none of the table.
+pub const NO_VERB: u32 = 3;
+
+/// The moment is no number.
+pub const NO_MOMENT: u32 = 4;
+
+/// The hex text is none.
+pub const NO_HEX: u32 = 5;
+
+/// As many lines of action as a trace may have stand before the line, and it is not `end`.
+pub const TOO_MANY_LINES: u32 = 9;
+
+/// The bytes end before a line `end`.
+pub const NO_END: u32 = 10;
+
+/// Bytes stand behind the line `end`.
+pub const BEHIND_END: u32 = 11;
+
+/// The source is longer than a trace may be. Line 0 has this reason, and no other line.
+pub const TOO_LONG: u32 = 12;
+
+/// The first bad line, and why it is bad.
+#[derive(Clone, Copy, PartialEq, Eq, Debug)]
+pub struct TraceFault {
+    /// The line, counted from 1.
+    pub line: u32,
+    /// The reason of its first bad field, by the constants of this crate.
+    pub reason: u32,
+}
+
+/// Why no trace was read.
+#[derive(Clone, Copy, PartialEq, Eq, Debug)]
+pub enum ReadTrace {
+    /// The bytes are no trace.
+    Fault(TraceFault),
+    /// Memory ran out.
+    NoMemory,
+}
+
+/// Why a line was not read.
+#[derive(Clone, Copy, PartialEq, Eq, Debug)]
+pub enum Bad {
+    /// The reason of its first bad field.
+    Reason(u32),
+    /// Memory ran out.
+    Memory,
+}

@@ -1,0 +1,26 @@
+//! Laws of the definitions that the contracts of this crate cite. The functions do nothing; their
+//! contracts are the laws.
+
+ghost use Rattle.std.specs.Prelude.{◌≡◌, ℕ, List};
+ghost use Rattle.call_trace.specs.declared.trace.Line.{Line};
+ghost use Rattle.call_trace.specs.Fields.{Cut, lines_of, IsCut};
+ghost use Rattle.call_trace.specs.Plain.{Plain, settled};
+ghost use Rattle.call_trace.specs.Grammar.{IsTrace};
+ghost use Rattle.call_trace.specs.Merge.{Merges};
+ghost use Rattle.call_trace.specs.Ordered.{ordered};
+
+/// Bytes are cut into lines at their line feeds, in one way.
+pub fn lines_are_cut_at_line_feeds()
+    ensures cut { (bytes : List ℕ) → IsCut bytes (lines_of bytes) }
+    ensures one { (bytes : List ℕ) (cut : Cut) → IsCut bytes cut → cut ≡ lines_of bytes }
+{}
+
+/// No bytes spell two traces.
+pub fn no_bytes_spell_two_traces()
+    ensures { (bytes : List ℕ) (a b : Plain) → IsTrace bytes a → IsTrace bytes b → settled a ≡ settled b }
+{}
+
+/// The history that serves the calls in the order of the lines merges them.
+pub fn lines_in_order_merge()
+    ensures { (lines : List Line) → Merges lines (ordered lines) }
+{}

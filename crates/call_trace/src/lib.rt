@@ -1,0 +1,23 @@
+//! Traces: the calls of several actors to one sender, as lines of text.
+//!
+//! A line is the bytes before a line feed. The first line is `gcc-trace 1 ACTORS`. Then come lines
+//! of action, then `end`, and nothing behind it. The format is this project's own.
+#![tactic(auto)]
+
+mod action;
+mod fault;
+mod fields;
+mod laws;
+mod reading;
+mod trace;
+
+pub use fault::{
+    BEHIND_END, NO_ACTOR, NO_END, NO_HEADER, NO_HEX, NO_MOMENT, NO_VERB, ReadTrace, TOO_LONG,
+    TOO_MANY_LINES, TraceFault,
+};
+pub use laws::{lines_are_cut_at_line_feeds, lines_in_order_merge, no_bytes_spell_two_traces};
+pub use reading::read_trace;
+pub use trace::{Action, Line, LineList, Trace};
+
+#[cfg(test)]
+mod tests;

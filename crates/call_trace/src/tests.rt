@@ -1,0 +1,161 @@
+use super::*;
+use gcc_units::{Class, MOST_CHECK_BYTES, MOST_LINES};
+use send_core::Call;
+use std::alloc::AllocGlobal;
+use std::process::Abort;
+use std::test::*;
+
+const SMALLEST_RUN: &[u8] = b"gcc-trace 1 1
+E 0 1000 v 9060000100000000000000aabede000131000000
+E 0 1100 a 906f000100000000000000bbbede000131000000
+P 0 2000
+end
+";
+
+/// The line and the reason of the fault, `(0, 0)` where there is none.
+fn fault_of(rt: &(impl Abort + AllocGlobal), bytes: &[u8]) -> (u32, u32) {
+    assert!(rt; bytes.len() as u64 <= MOST_CHECK_BYTES);
+    match read_trace(rt.alloc(), bytes) {
+        Ok(_) => (0, 0),
+        Err(ReadTrace::Fault(fault)) => (fault.line, fault.reason),
+        Err(ReadTrace::NoMemory) => (u32::MAX, u32::MAX),
+    }
+}
+
+#[test]
+fn faults(rt: HostRuntime) {
+    let cases: [(&[u8], (u32, u32)); 46] = [
+        // The header, and what is missing.
+        (b"", (1, NO_END)),
+        (b"gcc-trace 1 1", (1, NO_END)),
+        (b"x", (1, NO_END)),
+        (b"x\n", (1, NO_HEADER)),
+        (b"gcc-trace 1 0\nend\n", (1, NO_HEADER)),
+        (b"gcc-trace 1 01\nend\n", (1, NO_HEADER)),
+        (b"gcc-trace 1 16\nend\n", (0, 0)),
+        (b"gcc-trace 1 17\nend\n", (1, NO_HEADER)),
+        (b"gcc-trace 1 1\r\nend\n", (1, NO_HEADER)),
+        (b"gcc-trace 1  1\nend\n", (1, NO_HEADER)),
+        (b"gcc-trace 1 1\nend\n", (0, 0)),
+        (b"gcc-trace 1 1\nend", (2, NO_END)),
+        (b"gcc-trace 1 1\nend\n\n", (3, BEHIND_END)),
+        (b"gcc-trace 1 1\nend\nx", (3, BEHIND_END)),
+        (b"gcc-trace 1 2\nend\nP 0 0\n", (3, BEHIND_END)),
+        // One bad field.
+        (b"gcc-trace 1 2\nP 1 0\nend\n", (0, 0)),
+        (b"gcc-trace 1 2\nP 2 0\nend\n", (2, NO_ACTOR)),
+        (b"gcc-trace 1 2\nX 0 0\nend\n", (2, NO_VERB)),
+        (b"gcc-trace 1 2\nR 0 0 00\nend\n", (2, NO_VERB)),
+        (b"gcc-trace 1 2\nC 0 0 {}\nend\n", (2, NO_VERB)),
+        (b"gcc-trace 1 2\nP 0 01\nend\n", (2, NO_MOMENT)),
+        (b"gcc-trace 1 2\nE 0 0 q 00\nend\n", (2, NO_VERB)),
+        (b"gcc-trace 1 2\nE 0 0 a 0\nend\n", (2, NO_HEX)),
+        (b"gcc-trace 1 2\nE 0 0 a 0g\nend\n", (2, NO_HEX)),
+        (b"gcc-trace 1 2\nE 0 0 a aF\nend\n", (0, 0)),
+        // Carriage returns, spaces and fields that are not there.
+        (b"gcc-trace 1 1\nP 0 0\r\nend\n", (2, NO_MOMENT)),
+        (b"gcc-trace 1 1\nG 0\r\nend\n", (2, NO_ACTOR)),
+        (b"gcc-trace 1 1\nE 0 0 a 00\r\nend\n", (2, NO_HEX)),
+        (b"gcc-trace 1 1\nP 0 0 \nend\n", (2, NO_MOMENT)),
+        (b"gcc-trace 1 1\nP 0  0\nend\n", (2, NO_MOMENT)),
+        (b"gcc-trace 1 1\nG 0 0\nend\n", (2, NO_ACTOR)),
+        (b"gcc-trace 1 1\nG\nend\n", (2, NO_ACTOR)),
+        (b"gcc-trace 1 1\nG 0\nend\n", (0, 0)),
+        (b"gcc-trace 1 1\nE 0 x q zz\nend\n", (2, NO_MOMENT)),
+        (b"gcc-trace 1 1\nE 0 0\nend\n", (2, NO_VERB)),
+        (b"gcc-trace 1 1\nE 0 0 a\nend\n", (2, NO_HEX)),
+        (b"gcc-trace 1 1\nend \nend\n", (2, NO_VERB)),
+        (b"gcc-trace 1 1\n\nend\n", (2, NO_VERB)),
+        // Numbers.
+        (b"gcc-trace 1 1\nP 0 18446744073709551615\nend\n", (0, 0)),
+        (
+            b"gcc-trace 1 1\nP 0 18446744073709551616\nend\n",
+            (2, NO_MOMENT),
+        ),
+        (b"gcc-trace 1 1\nP 0 +1\nend\n", (2, NO_MOMENT)),
+        (b"gcc-trace 1 1\nP 00 0\nend\n", (2, NO_ACTOR)),
+        // The first bad line, and in it the first bad field.
+        (b"gcc-trace 1 1\nP 0 0\nP 1 x\nX\nend\n", (3, NO_ACTOR)),
+        (b"gcc-trace 1 1\nP 0 0\nP 0 0\nX", (4, NO_END)),
+        (b"gcc-trace 1 1\nP 0 0\nX\nend", (3, NO_VERB)),
+        (b"gcc-trace 1 1\nP 0 x\nend\nend\n", (2, NO_MOMENT)),
+    ];
+    for (index, (bytes, want)) in cases.iter().enumerate() {
+        assert_eq!(rt; fault_of(&rt, bytes), *want, "at case {index}");
+    }
+}
+
+#[test]
+fn every_proper_prefix_has_no_end(rt: HostRuntime) {
+    for len in 0..SMALLEST_RUN.len() {
+        let front = &SMALLEST_RUN[..len];
+        let feeds = front.iter().filter(|b| **b == b'\n').count();
+        assert_eq!(rt;
+            fault_of(&rt, front),
+            (feeds as u32 + 1, NO_END),
+            "at {len}"
+        );
+    }
+}
+
+/// The actor, the moment, the class and the packet of a line; a pace has neither of the last two.
+fn parts(line: &Line) -> (u32, u64, Option<Class>, &[u8]) {
+    match &line.action {
+        Action::Ask(Call::Enqueue { at, class, wire }) => {
+            (line.actor, *at, Some(*class), wire.as_slice())
+        }
+        Action::Ask(Call::Pace { at }) => (line.actor, *at, None, b"pace".as_slice()),
+        Action::Look => (line.actor, 0, None, b"look".as_slice()),
+    }
+}
+
+#[test]
+fn smallest_run(rt: HostRuntime) -> Result<(), Fail> {
+    let video = b"\x90\x60\0\x01\0\0\0\0\0\0\0\xaa\xbe\xde\0\x01\x31\0\0\0";
+    let audio = b"\x90\x6f\0\x01\0\0\0\0\0\0\0\xbb\xbe\xde\0\x01\x31\0\0\0";
+    let wanted: [(u32, u64, Option<Class>, &[u8]); 3] = [
+        (0, 1000, Some(Class::Video), video),
+        (0, 1100, Some(Class::Audio), audio),
+        (0, 2000, None, b"pace"),
+    ];
+    let trace = read_trace(rt.alloc(), SMALLEST_RUN)
+        .ok()
+        .ok_or("it is a trace")?;
+    assert_eq!(rt; trace.actors, 1);
+    assert_eq!(rt; trace.lines.len(), 3);
+    for (line, want) in trace.lines.as_slice().iter().zip(wanted.iter()) {
+        let (actor, at, class, bytes) = parts(line);
+        assert_eq!(rt; actor, want.0);
+        assert_eq!(rt; at, want.1);
+        assert_eq!(rt; class, want.2);
+        assert_eq!(rt; bytes, want.3);
+    }
+    Ok(())
+}
+
+/// A header, so many lines of action, and these bytes.
+fn long_trace(rt: &impl AllocGlobal, lines: u32, last: &[u8]) -> Result<Vec<u8>, Fail> {
+    let mut bytes = Vec::new(rt.alloc());
+    bytes.extend_from_slice(b"gcc-trace 1 1\n")?;
+    for _ in 0..lines {
+        bytes.extend_from_slice(b"P 0 0\n")?;
+    }
+    bytes.extend_from_slice(last)?;
+    Ok(bytes)
+}
+
+#[test]
+fn lines_of_action_are_limited(rt: HostRuntime) -> Result<(), Fail> {
+    let cases: [(&[u8], (u32, u32)); 5] = [
+        (b"end\n", (0, 0)),
+        (b"P 0 0\n", (MOST_LINES + 2, TOO_MANY_LINES)),
+        (b"x\n", (MOST_LINES + 2, TOO_MANY_LINES)),
+        (b"P 0 0", (MOST_LINES + 2, NO_END)),
+        (b"", (MOST_LINES + 2, NO_END)),
+    ];
+    for (last, want) in cases {
+        let bytes = long_trace(&rt, MOST_LINES, last)?;
+        assert_eq!(rt; fault_of(&rt, bytes.as_slice()), want);
+    }
+    Ok(())
+}

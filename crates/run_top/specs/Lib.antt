@@ -1,0 +1,5 @@
+pub mod Words
+pub mod Ending
+pub mod Reading
+pub mod Replay
+pub mod Outcome

@@ -1,0 +1,11 @@
+use Rattle.std.proofs.Common.{arith}
+use Rattle.turn_lock.specs.Rule.{Lawful}
+use Rattle.turn_lock.proofs.Keeps.{sees}
+use Rattle.turn_lock.proofs.steps.Steps.read.Goals as goal
+
+pub load-requires : goal.load-requires
+load-requires g c = let t = c.args.self.now in (
+  c.requires.of,
+  omega (arith, t.sized),
+  sees t.table.shared.key g.T.Object.history (Lawful g.T.Object.legal g.T.Object.board_of) g.T.Object.board_of _ c.args.place.now.id c.args.place.now.me c.requires.idle,
+)

@@ -1,0 +1,21 @@
+//! A lock for callers on many threads: they wait in line, and all of them see beginnings of one
+//! history.
+#![tactic(auto)]
+
+mod entry;
+mod law;
+mod object;
+mod seat;
+mod steps;
+mod turn;
+mod view;
+
+pub use entry::Entry;
+pub use object::Object;
+pub use seat::{Note, SEATS, Seat, SeatList};
+pub use turn::Turn;
+
+#[cfg(test)]
+mod adder;
+#[cfg(test)]
+mod tests;

@@ -1,0 +1,4 @@
+pub mod Chunks
+pub mod Spelling
+pub mod Reading
+pub mod Checks

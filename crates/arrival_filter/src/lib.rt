@@ -6,7 +6,7 @@
 //! each millisecond are this project's own rules.
 #![tactic(auto)]
 
-ghost use Rattle.std.specs.Prelude.{◌≡◌, ℤ, ◌+ℤ◌, ◌≤ℤ◌, pos, neg_ℤ, ◌+◌, ◌*◌, ◌^◌, ◌<◌, ◌≤◌, [], ◌∷◌, ◌++◌, List, unsigned_abs};
+ghost use Rattle.std.specs.Prelude.{◌≡◌, ◌+ℤ◌, ◌≤ℤ◌, pos, neg_ℤ, ◌+◌, ◌*◌, ◌^◌, ◌<◌, ◌≤◌, [], ◌∷◌, ◌++◌, List, unsigned_abs};
 ghost use Rattle.std.specs.Int.{int_min, int_max};
 ghost use Rattle.gcc_units.specs.declared.shared_types.Sample.{Sample};
 ghost use Rattle.arrival_filter.specs.Filter.{start, step, last_kept, least, cut, next_variance, gain, moved, left};
@@ -14,7 +14,7 @@ ghost use Rattle.arrival_filter.specs.Given.{IsWithin, StandsFor, StandsForFew, 
 
 use arrayvec::ArrayVec;
 use fixed_math::{ONE_Q16, ONE_Q30, isqrt, mul_q16, pow_q30};
-use gcc_units::{GREATEST_DELAY, Sample};
+use gcc_units::{GREATEST_DELAY, MOST_PACKETS, Sample};
 use std::marker::Model;
 
 /// The error before the first sample, in Q16: 0.1 square millisecond.
@@ -30,7 +30,7 @@ pub const LEAST_VARIANCE: u64 = 65_536;
 pub const GREATEST_VARIANCE: u64 = 26_214_400_000_000;
 
 /// The greatest error that the samples of one filter can lead to, in Q16.
-pub const GREATEST_ERROR: u64 = 8_724_158_873;
+pub const GREATEST_ERROR: u64 = START_ERROR + PROCESS_NOISE * MOST_PACKETS as u64;
 
 /// How many of the last send intervals are kept.
 pub const KEPT_INTERVALS: usize = 5;

@@ -6,7 +6,7 @@ use Rattle.fixed_math.proofs.mul_q16.Goals as goal
 
 pub returns-clause-value : goal.returns-clause-value
 returns-clause-value c =
-    let f : FitsSigned w128 (c.args.a *ℤ c.args.b) = search rules in search (arith, ints, to_z-of_z, c.div_euclid.ensures)
+    let f : FitsSigned w128 (c.args.a *ℤ c.args.b) = search rules in search (arith, ints, to_z-of_z)
 
 pub returns-clause-floor : goal.returns-clause-floor
 returns-clause-floor c = rw (returns-clause-value c) (floor_is _ _ (omega (arith, ints)))

@@ -1,0 +1,7 @@
+pub mod Accounts
+pub mod Numbers
+pub mod Marks
+pub mod Places
+pub mod Slots
+pub mod Telling
+pub mod Runs

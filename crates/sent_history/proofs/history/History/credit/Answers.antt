@@ -1,0 +1,107 @@
+use Rattle.std.proofs.Common.{◌≡◌, ℕ, pos, ◌+◌, ◌-◌, ◌<◌, ◌*ℤ◌, List, All, length, slice_index_or, ap, sym, ◌∙◌, subst, arith, to_z, of_z, w32, w64}
+use Rattle.std.specs.List.{enumerate_from}
+use Rattle.std.specs.Vec.{with_items}
+use Rattle.std.proofs.lemmas.Int.{ints}
+use Rattle.std.proofs.lemmas.List.{length-map, with_items_is}
+use Rattle.std.proofs.lemmas.List.FromFn.{length-enumerate_from}
+use Rattle.gcc_units.specs.Unwrapping.{unwrapped}
+use Rattle.twcc_report.specs.Spelling.{Feedback, view}
+use Rattle.sent_history.specs.declared.slot.Slot.{Slot}
+use Rattle.sent_history.specs.declared.slot.Outgoing.{Outgoing}
+use Rattle.sent_history.specs.Judging.{all_marks}
+use Rattle.sent_history.specs.Kept.{Kept, Keeps}
+use Rattle.sent_history.specs.Events.{reported, packets}
+use Rattle.sent_history.specs.Crediting.{account, told, judged, verdict_at, credits_in, IsOfPacket}
+use Rattle.sent_history.proofs.Accounts.{IsNear, account-push, account_packets, last_near, next_near}
+use Rattle.sent_history.proofs.Slots.{keeps_reported, of_packets, marks_of, judged_are}
+use Rattle.sent_history.proofs.Telling.{total, told_total}
+use Rattle.sent_history.proofs.history.History.credit.Goals as goal
+
+pub unwrap24-reference-requires-clause-last_low : goal.unwrap24-reference-requires-clause-last_low
+unwrap24-reference-requires-clause-last_low c =
+    let near : IsNear 8796093022208 c.self.inside.reference =
+    last_near c.args.self.now c.self.inside.reference (ap (λ (k : Kept). k.reference) c.self.view_is) c.requires.room in
+    omega (arith, ints, near.low, near.high)
+
+pub unwrap24-reference-requires-clause-last_high : goal.unwrap24-reference-requires-clause-last_high
+unwrap24-reference-requires-clause-last_high c =
+    let near : IsNear 8796093022208 c.self.inside.reference =
+    last_near c.args.self.now c.self.inside.reference (ap (λ (k : Kept). k.reference) c.self.view_is) c.requires.room in
+    omega (arith, ints, near.low, near.high)
+
+pub overflow_mul-reference : goal.overflow_mul-reference
+overflow_mul-reference c =
+    let near : IsNear 17592186044416 c.unwrap24-reference.result =
+    next_near c.args.self.now c.self.inside.reference _ c.unwrap24-reference.result (ap (λ (k : Kept). k.reference) c.self.view_is) c.requires.room c.unwrap24-reference.ensures.nearest in
+    omega (arith, ints, near.low, near.high)
+
+pub judge-requires-clause-low : goal.judge-requires-clause-low
+judge-requires-clause-low c =
+    let near : IsNear 17592186044416 c.unwrap24-reference.result =
+    next_near c.args.self.now c.self.inside.reference _ c.unwrap24-reference.result (ap (λ (k : Kept). k.reference) c.self.view_is) c.requires.room c.unwrap24-reference.ensures.nearest in
+    omega (arith, ints, near.low, near.high)
+
+pub judge-requires-clause-high : goal.judge-requires-clause-high
+judge-requires-clause-high c =
+    let near : IsNear 17592186044416 c.unwrap24-reference.result =
+    next_near c.args.self.now c.self.inside.reference _ c.unwrap24-reference.result (ap (λ (k : Kept). k.reference) c.self.view_is) c.requires.room c.unwrap24-reference.ensures.nearest in
+    omega (arith, ints, near.low, near.high)
+
+pub returns-clause-stands : goal.returns-clause-stands
+returns-clause-stands c = λ events stands.
+    let h : Kept = record { sent = c.self.inside.sent; slots = c.self.inside.slots.items; reference = c.self.inside.reference } in
+    let keep : Keeps h (account events) = subst (λ (k : Kept). Keeps k (account events)) (sym c.self.view_is) stands in
+    let last : IsNear 8796093022208 c.self.inside.reference =
+    last_near c.args.self.now c.self.inside.reference (ap (λ (k : Kept). k.reference) c.self.view_is) c.requires.room in
+    let near : IsNear 17592186044416 c.unwrap24-reference.result =
+    next_near c.args.self.now c.self.inside.reference _ c.unwrap24-reference.result (ap (λ (k : Kept). k.reference) c.self.view_is) c.requires.room c.unwrap24-reference.ensures.nearest in
+    let report : Feedback = view c.args.report.now in
+    let is_last : to_z w64 (of_z w64 c.self.inside.reference) ≡ c.self.inside.reference = omega (arith, ints, last.low, last.high) in
+    let is_low : to_z w32 (of_z w32 report.reference) ≡ report.reference = omega (arith, ints, c.requires.low, c.requires.high) in
+    let is_next : to_z w64 (of_z w64 c.unwrap24-reference.result) ≡ c.unwrap24-reference.result = omega (arith, ints, near.low, near.high) in
+    let next : to_z w64 (of_z w64 c.unwrap24-reference.result) ≡ unwrapped h.reference report.reference =
+    is_next ∙ c.unwrap24-reference.ensures.value ∙ ap (λ z. unwrapped z (to_z w32 (of_z w32 report.reference))) is_last ∙ ap (λ z. unwrapped h.reference z) is_low in
+    let len : length c.mark_all.new.slots ≡ length h.slots = c.mark_all.auto.slots ∙ ap length c.deref_mut.ensures.value in
+    let written : c.mark_all.new.slots ≡ (with_items c.self.inside.slots c.mark_all.new.slots).items =
+    sym (with_items_is c.self.inside.slots c.mark_all.new.slots (len ∙ sym c.self.inside.slots.ok.0)) in
+    rw (account-push events (reported report))
+    (keeps_reported h (account events) report _ (to_z w64 (of_z w64 c.unwrap24-reference.result)) (omega arith) keep (ap length (sym written) ∙ len)
+    (subst (λ (new : List Slot). (k : ℕ) (d : Slot) → k < length h.slots → slice_index_or new k d ≡ all_marks h.sent report.base report.statuses (h.sent - length h.slots + k) (slice_index_or h.slots k d)) written
+    (marks_of c.mark_all.new.slots c.deref_mut.result.now h.slots h.sent report.base c.as_slice-statuses.result.now report.statuses c.deref_mut.ensures.value
+    c.as_slice-statuses.ensures.items c.mark_all.ensures)) next)
+
+pub returns-clause-judged : goal.returns-clause-judged
+returns-clause-judged c = λ events stands.
+    let h : Kept = record { sent = c.self.inside.sent; slots = c.self.inside.slots.items; reference = c.self.inside.reference } in
+    let keep : Keeps h (account events) = subst (λ (k : Kept). Keeps k (account events)) (sym c.self.view_is) stands in
+    let last : IsNear 8796093022208 c.self.inside.reference =
+    last_near c.args.self.now c.self.inside.reference (ap (λ (k : Kept). k.reference) c.self.view_is) c.requires.room in
+    let near : IsNear 17592186044416 c.unwrap24-reference.result =
+    next_near c.args.self.now c.self.inside.reference _ c.unwrap24-reference.result (ap (λ (k : Kept). k.reference) c.self.view_is) c.requires.room c.unwrap24-reference.ensures.nearest in
+    let report : Feedback = view c.args.report.now in
+    let is_last : to_z w64 (of_z w64 c.self.inside.reference) ≡ c.self.inside.reference = omega (arith, ints, last.low, last.high) in
+    let is_low : to_z w32 (of_z w32 report.reference) ≡ report.reference = omega (arith, ints, c.requires.low, c.requires.high) in
+    let value : c.unwrap24-reference.result ≡ unwrapped h.reference report.reference =
+    c.unwrap24-reference.ensures.value ∙ ap (λ z. unwrapped z (to_z w32 (of_z w32 report.reference))) is_last ∙ ap (λ z. unwrapped h.reference z) is_low in
+    let product : to_z w64 (of_z w64 (pos 256 *ℤ to_z w64 (of_z w64 c.unwrap24-reference.result))) ≡ (pos 256 *ℤ c.unwrap24-reference.result) =
+    omega (arith, ints, near.low, near.high) in
+    c.in_ok-judged.ensures.verdicts
+    ∙ ap told (judged_are h (account events) report c.deref.result.now (to_z w64 (of_z w64 (pos 256 *ℤ to_z w64 (of_z w64 c.unwrap24-reference.result)))) c.as_slice-statuses.result.now
+    (omega arith) keep c.deref.ensures.value (product ∙ ap (λ z. pos 256 *ℤ z) value) c.as_slice-statuses.ensures.items)
+
+pub returns-clause-sum : goal.returns-clause-sum
+returns-clause-sum c =
+    let room = c.requires.room in
+    let report : Feedback = view c.args.report.now in
+    ap total (returns-clause-judged c room.0 room.1)
+    ∙ told_total (judged room.0 report)
+    ∙ length-map (enumerate_from 0 report.statuses) (verdict_at (account room.0) report)
+    ∙ length-enumerate_from 0 report.statuses
+
+pub returns-clause-packets : goal.returns-clause-packets
+returns-clause-packets c = λ events stands.
+    let report : Feedback = view c.args.report.now in
+    let all : All (IsOfPacket (account events).packets) (credits_in (judged events report)) = of_packets (account events) report in
+    let said : All (IsOfPacket (packets events)) (credits_in (judged events report)) =
+    subst (λ (sent : List Outgoing). All (IsOfPacket sent) (credits_in (judged events report))) (account_packets events) all in
+    rw (returns-clause-judged c events stands) said

@@ -1,0 +1,4 @@
+pub mod Events
+pub mod Crediting
+pub mod Kept
+pub mod Judging

@@ -1,0 +1,146 @@
+//! The history of sent packets and of what reports said of them.
+
+ghost use Rattle.std.specs.Prelude.{◌≡◌, ℕ, pos, neg_ℤ, ◌+◌, ◌-◌, ◌^◌, ◌<◌, ◌≤◌, ◌≤ℤ◌, ◌∷◌, ◌++◌, [], not, List, length, drop, count_by, All, IfOk, OnOk, OnErr, vec_capacity};
+ghost use Rattle.twcc_report.specs.Spelling.{view};
+ghost use Rattle.sent_history.specs.declared.slot.Slot.{Slot};
+ghost use Rattle.sent_history.specs.Events.{Event, added, reported, packets};
+ghost use Rattle.sent_history.specs.Crediting.{told, judged, outstanding, ArrivesInRange, IsOfPacket};
+ghost use Rattle.sent_history.specs.Kept.{StandsFor, TakesPacket, TakesReport, IsSentBy};
+
+use crate::judging::{judge, mark_all};
+use crate::slot::{Outgoing, Slot};
+use crate::{GREATEST_REFERENCE, MOST_STATUSES};
+use gcc_units::{Judged, KEPT_PACKETS, NoMemory, unwrap24};
+use std::alloc::Global;
+use std::marker::Model;
+use twcc_report::Report;
+
+/// The packets that were sent, numbered from 0 on, and what reports said of the last of them.
+#[derive(Drop)]
+pub struct History {
+    slots: Vec<Slot>,
+    sent: u64,
+    reference: i64,
+}
+
+impl Model for History {
+    ghost use Rattle.std.specs.Prelude.{◌≤◌, length};
+    ghost use Rattle.std.specs.Vec.{vec_capacity};
+    ghost use Rattle.gcc_units.specs.declared.limits.TheConstants.{KEPT_PACKETS};
+    ghost use Rattle.sent_history.specs.Kept.{Kept};
+
+    ghost Value = { Kept };
+
+    ghost view = { λ h. record { sent = h.sent; slots = h.slots.items; reference = h.reference } };
+
+    ghost invariant = { λ h. (KEPT_PACKETS ≤ vec_capacity h.slots)
+        × (length h.slots.items ≤ KEPT_PACKETS)
+        × (length h.slots.items ≤ h.sent) };
+}
+
+impl History {
+    /// The history of nothing sent. It takes the memory for all packets that are ever kept.
+    pub fn new(alloc: Global) -> Result<Self, NoMemory>
+        ensures { IfOk result (λ h. StandsFor h []) }
+    {
+        Ok(History {
+            slots: Vec::with_capacity(alloc, KEPT_PACKETS as usize)?,
+            sent: 0,
+            reference: 0,
+        })
+    }
+
+    /// Adds a packet, and answers its number: the count of the packets before it.
+    pub fn add(&mut self, packet: Outgoing) -> u64
+        requires few { TakesPacket self.old }
+        requires order { IsSentBy self.old packet.sent_at }
+        ensures stands { (events : List Event) → StandsFor self.old events
+            → StandsFor self.new (events ++ added packet ∷ []) }
+        ensures number { (events : List Event) → StandsFor self.old events
+            → result ≡ length (packets events) }
+    {
+        let number = self.sent;
+        slide(
+            &mut self.slots,
+            Slot {
+                packet,
+                credited: false,
+                missed: false,
+            },
+        );
+        self.sent += 1;
+        number
+    }
+
+    /// How many packets were sent.
+    pub fn sent(&self) -> u64
+        ensures { (events : List Event) → StandsFor self.now events → result ≡ length (packets events) }
+    {
+        self.sent
+    }
+
+    /// How many packets are outstanding: among the last 32,768, and not credited.
+    pub fn outstanding(&self) -> u32
+        ensures { (events : List Event) → StandsFor self.now events → result ≡ outstanding events }
+    {
+        open_count(&self.slots) as u32
+    }
+
+    /// Judges the statuses of a report by what came before it, and credits the outstanding packets that it
+    /// names received. At `NoMemory` the history is as before.
+    pub fn credit(&mut self, alloc: Global, report: &Report) -> Result<Judged, NoMemory>
+        requires room { TakesReport self.old }
+        requires low { neg_ℤ GREATEST_REFERENCE ≤ℤ report.now.reference }
+        requires high { report.now.reference ≤ℤ GREATEST_REFERENCE }
+        requires some { 1 ≤ length report.now.statuses.items }
+        requires few { length report.now.statuses.items ≤ MOST_STATUSES }
+        ensures stands { OnOk result ((events : List Event) → StandsFor self.old events
+            → StandsFor self.new (events ++ reported (view report.now) ∷ [])) }
+        ensures judged { IfOk result (λ j. (events : List Event) → StandsFor self.old events
+            → j ≡ told (judged events (view report.now))) }
+        ensures sum { IfOk result (λ j. length j.received.items + j.missing + j.unknown + j.repeated
+            ≡ length report.now.statuses.items) }
+
+        // Each credit tells of the packet of its number.
+        ensures packets { IfOk result (λ j. (events : List Event) → StandsFor self.old events
+            → All (IsOfPacket (packets events)) j.received.items) }
+        ensures arrivals { IfOk result (λ j. All ArrivesInRange j.received.items) }
+        ensures unchanged { OnErr result (self.new ≡ self.old) }
+    {
+        let reference = unwrap24(self.reference, report.reference);
+        let statuses = report.statuses.as_slice();
+        let judged = judge(
+            alloc,
+            &self.slots,
+            self.sent,
+            report.base,
+            256 * reference,
+            statuses,
+        )?;
+        mark_all(&mut self.slots, self.sent, report.base, statuses);
+        self.reference = reference;
+        Ok(judged)
+    }
+}
+
+/// How many slots are not credited.
+fn open_count(slots: &[Slot]) -> usize
+    ensures count { result ≡ count_by (λ (s : Slot). not s.credited) slots.now }
+    ensures few { result ≤ length slots.now }
+{
+    slots.iter().filter(|slot| !slot.credited).count()
+}
+
+/// Puts a slot at the end, where the oldest goes if there are as many as are kept.
+fn slide(slots: &mut Vec<Slot>, slot: Slot)
+    requires room { KEPT_PACKETS ≤ vec_capacity slots.old }
+    requires few { length slots.old.items ≤ KEPT_PACKETS }
+    ensures items { slots.new.items
+        ≡ drop (length slots.old.items + 1 - KEPT_PACKETS) slots.old.items ++ slot ∷ [] }
+    ensures room { vec_capacity slots.new ≡ vec_capacity slots.old }
+{
+    if slots.len() == KEPT_PACKETS as usize {
+        slots.remove(0);
+    }
+    slots.push_reserved(slot);
+}

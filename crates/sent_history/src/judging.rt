@@ -1,0 +1,184 @@
+//! Judging the statuses of a report, and marking the packets that they name.
+
+ghost use Rattle.std.specs.Prelude.{◌≡◌, ℕ, pos, neg_ℤ, ◌+◌, ◌-◌, ◌*◌, ◌%◌, ◌^◌, ◌<◌, ◌≤◌, ◌≤ℤ◌, ◌∷◌, ◌++◌, [], List, length, All, IfOk, OnOk, slice_index_or};
+ghost use Rattle.std.specs.Option.{option_copied};
+ghost use Rattle.gcc_units.specs.Unwrapping.{named_number};
+ghost use Rattle.sent_history.specs.declared.slot.Slot.{Slot};
+ghost use Rattle.sent_history.specs.declared.slot.Verdict.{Verdict};
+ghost use Rattle.sent_history.specs.Crediting.{is_received, delta_of, verdict_on, told, ArrivesInRange};
+ghost use Rattle.sent_history.specs.Judging.{kept_slot, slot_verdict, running, marked, marked_if, is_number, all_marks};
+
+use crate::MOST_STATUSES;
+use crate::slot::{Slot, Verdict};
+use gcc_units::{Credit, Judged, NoMemory, Sequence, unwrap16};
+use std::alloc::Global;
+use twcc_report::Status;
+
+/// Whether the status says that its packet was received.
+fn is_received(status: Status) -> bool
+    ensures { result ≡ is_received status }
+{
+    match status {
+        Status::NotReceived => false,
+        Status::Small(_) => true,
+        Status::Large(_) => true,
+    }
+}
+
+/// How much later than the packet received before it, in quarter-milliseconds.
+fn delta_of(status: Status) -> i64
+    ensures value { result ≡ delta_of status }
+    ensures low { neg_ℤ (pos 32768) ≤ℤ result }
+    ensures high { result ≤ℤ pos 32768 }
+{
+    match status {
+        Status::NotReceived => 0,
+        Status::Small(delta) => i64::from(delta),
+        Status::Large(delta) => i64::from(delta),
+    }
+}
+
+/// The slot of a packet, where it is kept.
+#[tactic(auto, unfolding(crate::specs::Judging::kept_slot))]
+fn kept_slot(slots: &[Slot], sent: u64, number: u64) -> Option<&Slot>
+    requires { length slots.now ≤ sent }
+    ensures { option_copied result ≡ kept_slot slots.now sent number }
+{
+    let first = sent - slots.len() as u64;
+    if number < first {
+        return None;
+    }
+    slots.get((number - first) as usize)
+}
+
+/// The verdict on a status that names a kept packet.
+#[tactic(auto, unfolding(crate::specs::Crediting::verdict_on))]
+fn verdict_on(slot: &Slot, number: u64, status: Status, arrival: i64) -> Verdict
+    ensures { result
+        ≡ verdict_on slot.now.credited slot.now.missed number slot.now.packet status arrival }
+{
+    if slot.credited {
+        return Verdict::Repeated;
+    }
+    if is_received(status) {
+        return Verdict::Received(Credit {
+            number,
+            sent_at: slot.packet.sent_at,
+            arrival,
+            size: slot.packet.size,
+            cluster: slot.packet.cluster,
+        });
+    }
+    if slot.missed {
+        Verdict::Repeated
+    } else {
+        Verdict::Missing(number)
+    }
+}
+
+/// The verdict on a status that names by these low 16 bits.
+#[tactic(auto, unfolding(crate::specs::Judging::slot_verdict))]
+fn verdict_at(slots: &[Slot], sent: u64, low: u16, status: Status, arrival: i64) -> Verdict
+    requires { length slots.now ≤ sent }
+    ensures { result ≡ slot_verdict slots.now sent status (named_number sent low) arrival }
+{
+    let Some(number) = unwrap16(sent, low) else {
+        return Verdict::Unknown;
+    };
+    match kept_slot(slots, sent, number) {
+        None => Verdict::Unknown,
+        Some(slot) => verdict_on(slot, number, status, arrival),
+    }
+}
+
+/// Adds a verdict to those that are told.
+fn tell(judged: &mut Judged, verdict: Verdict) -> Result<(), NoMemory>
+    requires { (before : List Verdict) × (judged.old ≡ told before) × (length before < MOST_STATUSES) }
+    ensures { (before : List Verdict) → judged.old ≡ told before
+        → OnOk result (judged.new ≡ told (before ++ verdict ∷ [])) }
+{
+    match verdict {
+        Verdict::Received(credit) => match judged.received.push(credit) {
+            Ok(()) => {}
+            Err((error, _)) => return Err(error),
+        },
+        Verdict::Missing(_) => judged.missing += 1,
+        Verdict::Unknown => judged.unknown += 1,
+        Verdict::Repeated => judged.repeated += 1,
+    }
+    Ok(())
+}
+
+/// Judges the statuses in order, by what was said of the packets before. The first delta counts from `start`.
+pub fn judge(
+    alloc: Global,
+    slots: &[Slot],
+    sent: u64,
+    base: u16,
+    start: i64,
+    statuses: &[Status],
+) -> Result<Judged, NoMemory>
+    requires slots { length slots.now ≤ sent }
+    requires few { length statuses.now ≤ MOST_STATUSES }
+    requires low { neg_ℤ (pos (2 ^ 52)) ≤ℤ start }
+    requires high { start ≤ℤ pos (2 ^ 52) }
+    ensures verdicts { IfOk result (λ j. j
+        ≡ told (running (slot_verdict slots.now sent) sent base start statuses.now)) }
+    ensures arrivals { IfOk result (λ j. All ArrivesInRange j.received.items) }
+{
+    let mut judged = Judged {
+        received: Sequence::new(alloc),
+        missing: 0,
+        unknown: 0,
+        repeated: 0,
+    };
+    let mut low = base;
+    let mut arrival = start;
+    for status in statuses {
+        arrival += delta_of(*status);
+        tell(&mut judged, verdict_at(slots, sent, low, *status, arrival))?;
+        low = low.wrapping_add(1);
+    }
+    Ok(judged)
+}
+
+/// Marks a packet by what a status says of it.
+fn mark(slot: &mut Slot, status: Status)
+    ensures { slot.new ≡ marked status slot.old }
+{
+    if is_received(status) {
+        slot.credited = true;
+    } else {
+        slot.missed = true;
+    }
+}
+
+/// Marks the packet that a status names, where it is kept.
+fn mark_number(slots: &mut [Slot], sent: u64, low: u16, status: Status)
+    requires { length slots.old ≤ sent }
+    ensures { (k : ℕ) (d : Slot) → k < length slots.old
+        → slice_index_or slots.new k d
+        ≡ marked_if (is_number (named_number sent low) (sent - length slots.old + k)) status (slice_index_or slots.old k d) }
+{
+    let Some(number) = unwrap16(sent, low) else {
+        return;
+    };
+    let first = sent - slots.len() as u64;
+    if number >= first {
+        mark(&mut slots[(number - first) as usize], status);
+    }
+}
+
+/// Marks the packets that the statuses name.
+pub fn mark_all(slots: &mut [Slot], sent: u64, base: u16, statuses: &[Status])
+    requires { length slots.old ≤ sent }
+    ensures { (k : ℕ) (d : Slot) → k < length slots.old
+        → slice_index_or slots.new k d
+        ≡ all_marks sent base statuses.now (sent - length slots.old + k) (slice_index_or slots.old k d) }
+{
+    let mut low = base;
+    for status in statuses {
+        mark_number(slots, sent, low, *status);
+        low = low.wrapping_add(1);
+    }
+}

@@ -1,0 +1,26 @@
+//! The sent packets and what feedback reports said of them: transport-wide numbers and exact credit
+//! (draft-holmer-rmcat-transport-wide-cc-extensions-01, section 3.1).
+//!
+//! The last 32,768 packets are kept. Which packet a status names, and how a status is judged, are this
+//! project's own rules. A report names packets by 16 bits only, so a forged or very old one can credit a
+//! newer packet that is outstanding.
+#![tactic(auto)]
+
+mod history;
+mod judging;
+mod slot;
+
+pub use history::History;
+pub use slot::Outgoing;
+
+/// The most reports that a history judges: 2^20.
+pub const MOST_REPORTS: u32 = 1_048_576;
+
+/// The most statuses of a report.
+pub const MOST_STATUSES: u32 = 65_535;
+
+/// How far the reference of a report may lie from 0: 2^23.
+pub const GREATEST_REFERENCE: i32 = 8_388_608;
+
+#[cfg(test)]
+mod tests;

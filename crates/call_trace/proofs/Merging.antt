@@ -1,6 +1,9 @@
--- Serving the lines in their order merges them.
-use Rattle.std.proofs.Common.{◌≡◌, ℕ, Bool, true, false, cond, eqb, List, [], ◌∷◌, ◌++◌, refl, sym, ap, ◌∙◌, append_assoc}
+-- Serving the lines in their order merges them, and gives a legal history.
+use Rattle.std.proofs.Common.{◌≡◌, ℕ, Bool, true, false, cond, eqb, List, [], ◌∷◌, ◌++◌, ◌+◌, ◌≤◌, suc, length, length-append, arith, subst, refl, sym, ap, ◌∙◌, append_assoc}
 use Rattle.std.proofs.lemmas.List.{append-nil}
+use Rattle.gcc_units.specs.declared.limits.TheConstants.{MOST_ENTRIES}
+use Rattle.send_core.specs.Reply.{reply, IsLegal}
+use Rattle.send_core.proofs.Legality.{IsLegal-push, IsLegal-first}
 use Rattle.std.proofs.lemmas.Grind.{flat_map-append}
 use Rattle.send_core.specs.declared.call.Call.{Call}
 use Rattle.send_core.specs.declared.call.Entry.{Entry}
@@ -29,3 +32,21 @@ served_merges a history (line ∷ lines) =
 pub ordered_merges : (lines : List Line) → Merges lines (ordered lines)
 unfolding ordered
 ordered_merges lines a = served_merges a [] lines
+
+added_legal : (history : List Entry) (actor : ℕ) (action : Action) → IsLegal history → suc (length history) ≤ MOST_ENTRIES → IsLegal (history ++ served_by history actor action)
+added_legal history actor (Ask call) legal room = IsLegal-push history actor call (reply history call) legal room refl
+added_legal history actor Look legal room = subst (λ (h : List Entry). IsLegal h) {x = history} (sym (append-nil history)) legal
+
+added_few : (history : List Entry) (actor : ℕ) (action : Action) → length (history ++ served_by history actor action) ≤ suc (length history)
+added_few history actor (Ask call) = simp length-append (omega arith)
+added_few history actor Look = rw (append-nil history) (omega arith)
+
+served_legal : (history : List Entry) (lines : List Line) → IsLegal history → length history + length lines ≤ MOST_ENTRIES → IsLegal (served history lines)
+unfolding served
+served_legal history [] legal room = legal
+served_legal history (line ∷ lines) legal room =
+    served_legal (history ++ added history line) lines (added_legal history line.actor line.action legal (omega arith)) (omega (arith, added_few history line.actor line.action))
+
+pub ordered_legal : (lines : List Line) → length lines ≤ MOST_ENTRIES → IsLegal (ordered lines)
+unfolding ordered
+ordered_legal lines few = served_legal [] lines IsLegal-first (omega arith)

@@ -66,7 +66,7 @@ IsHeader line = (actors : ℕ) × (0 < actors) × (actors ≤ MOST_ACTORS) × (l
 abbrev pub AreActions : ℕ → List (List ℕ) → Type 0
 AreActions actors texts = (lines : List Line) × AllZip (IsLine actors) texts lines
 
--- the whole lines of the bytes are a header, so many lines of action as there may be, and those behind them
+-- the whole lines of the bytes: a header, lines of action, no more than there may be, and those behind them
 pub record Begins (most : ℕ) (bytes : List ℕ) (actors : ℕ) (before after : List (List ℕ)) : Type 0 where
   pub some_actor : 0 < actors
   pub few_actors : actors ≤ MOST_ACTORS

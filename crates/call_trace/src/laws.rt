@@ -1,7 +1,9 @@
 //! Laws of the definitions that the contracts of this crate cite. The functions do nothing; their
 //! contracts are the laws.
 
-ghost use Rattle.std.specs.Prelude.{◌≡◌, ℕ, List};
+ghost use Rattle.std.specs.Prelude.{◌≡◌, ℕ, ◌≤◌, List, length};
+ghost use Rattle.gcc_units.specs.declared.limits.TheConstants.{MOST_ENTRIES};
+ghost use Rattle.send_core.specs.Reply.{IsLegal};
 ghost use Rattle.call_trace.specs.declared.trace.Line.{Line};
 ghost use Rattle.call_trace.specs.Fields.{Cut, lines_of, IsCut};
 ghost use Rattle.call_trace.specs.Plain.{Plain, settled};
@@ -23,4 +25,9 @@ pub fn no_bytes_spell_two_traces()
 /// The history that serves the calls in the order of the lines merges them.
 pub fn lines_in_order_merge()
     ensures { (lines : List Line) → Merges lines (ordered lines) }
+{}
+
+/// That history is legal: each reply is the one that the entries before it determine.
+pub fn lines_in_order_are_legal()
+    ensures { (lines : List Line) → length lines ≤ MOST_ENTRIES → IsLegal (ordered lines) }
 {}

@@ -1,3 +1,5 @@
 pub mod Listed
 pub mod Priority
+pub mod Rates
 pub mod Unwrapping
+pub mod Walk

@@ -1,6 +1,5 @@
-use Rattle.std.proofs.Common.{◌≡◌, ℤ, pos, ◌+ℤ◌, ◌-ℤ◌, arith, to_z, of_z, w64}
+use Rattle.std.proofs.Common.{◌≡◌, ◌+ℤ◌, ◌-ℤ◌, arith, to_z, of_z, w64}
 use Rattle.std.proofs.lemmas.Int.{ints}
-use Rattle.gcc_units.specs.Unwrapping.{signed24}
 use Rattle.gcc_units.proofs.Nearest.{value_is, nearest_is}
 use Rattle.gcc_units.proofs.unwrapping.unwrap24.Goals as goal
 

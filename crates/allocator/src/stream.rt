@@ -3,6 +3,12 @@ ghost use Rattle.std.specs.Prelude.{◌≡◌, IfOk};
 use gcc_units::{Duplicate, NoMemory, Rate, Sequence};
 use std::alloc::Global;
 
+/// The least weight of a stream.
+pub const LEAST_WEIGHT: u32 = 1;
+
+/// The greatest weight of a stream.
+pub const GREATEST_WEIGHT: u32 = 1_000;
+
 /// A stream that gets a share of the target rate.
 #[derive(Clone, Copy, PartialEq, Eq, Debug)]
 pub struct Stream {
@@ -16,6 +22,19 @@ pub struct Stream {
     pub weight: u32,
     /// Whether it is served even where its minimum does not fit the target.
     pub enforced: bool,
+}
+
+impl Default for Stream {
+    /// A stream that can use nothing.
+    fn default() -> Stream {
+        Stream {
+            id: 0,
+            min: 0,
+            max: 0,
+            weight: LEAST_WEIGHT,
+            enforced: false,
+        }
+    }
 }
 
 /// Streams. In a set no two have the same id.

@@ -1,0 +1,2 @@
+mod Signalling
+mod Reports

@@ -4,7 +4,7 @@ ghost use Rattle.gcc_units.specs.Rates.{IsRate};
 ghost use Rattle.probe_clusters.specs.declared.cluster.Cluster.{Cluster};
 ghost use Rattle.probe_clusters.specs.Cluster.{planned, waits, is_ready};
 ghost use Rattle.probe_clusters.specs.Clusters.{due, sent, noted, ready, after_ready, outcomes, after_outcomes, listed};
-ghost use Rattle.probe_clusters.specs.Deeds.{Deed, Plan, Note, StandsFor, IsWithin, send, takings};
+ghost use Rattle.probe_clusters.specs.Deeds.{Deed, clusters, Plan, Note, StandsFor, IsWithin, send, takings};
 
 use crate::cluster::Cluster;
 use gcc_units::{Credit, GREATEST_PACKET, MOST_CLUSTERS, Moment, NoMemory, Rate};
@@ -107,7 +107,8 @@ impl Clusters {
 
     /// How many clusters wait: too few packets were sent for them, or too few bytes for their rate.
     pub fn waiting(&self) -> u32
-        ensures { result ≡ count_by waits self.now.items }
+        ensures value { result ≡ count_by waits self.now.items }
+        ensures stands { (ds : List Deed) → StandsFor self.now.items ds → result ≡ count_by waits (clusters ds) }
     {
         count_waiting(self.held.as_slice()) as u32
     }
@@ -118,6 +119,7 @@ impl Clusters {
     pub fn due(&self, now: Moment) -> Option<u32>
         ensures value { result ≡ due self.now.items now }
         ensures bound { IfSome result (λ id. id < length self.now.items) }
+        ensures stands { (ds : List Deed) → StandsFor self.now.items ds → result ≡ due (clusters ds) now }
     {
         let id = current(self.held.as_slice())?;
         if self.held[id].is_due(now) {
@@ -167,6 +169,7 @@ impl Clusters {
         ensures value { result ≡ ready self.old.items }
         ensures items { self.new.items ≡ after_ready self.old.items }
         ensures spare { self.new.spare ≡ self.old.spare }
+        ensures answer { (ds : List Deed) → StandsFor self.old.items ds → result ≡ ready (clusters ds) }
         ensures stands { (ds : List Deed) → StandsFor self.old.items ds
             → StandsFor self.new.items (ds ++ takings (listed result)) }
 

@@ -1,13 +1,13 @@
-ghost use Rattle.std.specs.Prelude.{◌≡◌, ◌↔◌, ◌<◌, ◌≤◌, ◌+◌, List, [], ◌∷◌, ◌++◌, length, count_by, position, IsNone, IsSome, IfSome, IfNone, IfErr, IfOk, OnOk, OnErr, IsErr};
+ghost use Rattle.std.specs.Prelude.{◌≡◌, ℕ, ◌↔◌, ◌<◌, ◌≤◌, ◌+◌, List, [], ◌∷◌, ◌++◌, length, count_by, position, IsNone, IsSome, IfSome, IfNone, IfErr, IfOk, OnOk, OnErr, IsErr};
 ghost use Rattle.gcc_units.specs.Listed.{bare};
 ghost use Rattle.gcc_units.specs.Rates.{IsRate};
 ghost use Rattle.probe_clusters.specs.declared.cluster.Cluster.{Cluster};
 ghost use Rattle.probe_clusters.specs.Cluster.{planned, waits, is_ready};
 ghost use Rattle.probe_clusters.specs.Clusters.{due, sent, noted, ready, after_ready, outcomes, after_outcomes, listed};
-ghost use Rattle.probe_clusters.specs.Deeds.{Deed, clusters, Plan, Note, StandsFor, IsWithin, send, takings};
+ghost use Rattle.probe_clusters.specs.Deeds.{Deed, clusters, Plan, Note, StandsFor, ReachedBy, send, takings};
 
 use crate::cluster::Cluster;
-use gcc_units::{Credit, GREATEST_PACKET, MOST_CLUSTERS, Moment, NoMemory, Rate};
+use gcc_units::{Credit, GREATEST_PACKET, MOST_CLUSTERS, MOST_PACKETS, Moment, NoMemory, Rate};
 use std::alloc::Global;
 use std::marker::Model;
 
@@ -54,6 +54,7 @@ impl Clusters {
     pub fn new(alloc: Global) -> Clusters
         ensures empty { result ≡ bare [] }
         ensures stands { StandsFor result.items [] }
+        ensures reached { ReachedBy 0 0 result.items }
     {
         Clusters {
             held: Vec::new(alloc),
@@ -69,6 +70,7 @@ impl Clusters {
         ensures id { IfOk result (λ id. id ≡ length self.old.items) }
         ensures items { OnOk result (self.new.items ≡ self.old.items ++ planned rate ∷ []) }
         ensures stands { (ds : List Deed) → StandsFor self.old.items ds → OnOk result (StandsFor self.new.items (ds ++ Plan rate ∷ [])) }
+        ensures reached { (sends credits : ℕ) → ReachedBy sends credits self.old.items → OnOk result (ReachedBy sends credits self.new.items) }
         ensures spare { OnOk result (self.old.spare ≤ self.new.spare + 1) }
         ensures err { OnErr result (self.new ≡ self.old) }
 
@@ -133,11 +135,12 @@ impl Clusters {
     pub fn sent(&mut self, size: u32, now: Moment)
         requires due { IsSome (due self.old.items now) }
         requires size { size ≤ GREATEST_PACKET }
-        requires within { (ds : List Deed) × StandsFor self.old.items ds × IsWithin ds }
+        requires within { ReachedBy MOST_PACKETS MOST_PACKETS self.old.items }
         ensures items { self.new.items ≡ sent size now self.old.items }
         ensures spare { self.new.spare ≡ self.old.spare }
         ensures stands { (ds : List Deed) → StandsFor self.old.items ds
             → StandsFor self.new.items (ds ++ send (due self.old.items now) size now) }
+        ensures reached { (sends credits : ℕ) → ReachedBy sends credits self.old.items → ReachedBy (sends + 1) credits self.new.items }
     {
         let Some(id) = current(self.held.as_slice()) else {
             unreachable!()
@@ -150,10 +153,11 @@ impl Clusters {
     pub fn judge(&mut self, credit: &Credit)
         requires named { IfSome credit.now.cluster (λ id. id < length self.old.items) }
         requires size { credit.now.size ≤ GREATEST_PACKET }
-        requires within { (ds : List Deed) × StandsFor self.old.items ds × IsWithin ds }
+        requires within { ReachedBy MOST_PACKETS MOST_PACKETS self.old.items }
         ensures items { self.new.items ≡ noted credit.now self.old.items }
         ensures spare { self.new.spare ≡ self.old.spare }
         ensures stands { (ds : List Deed) → StandsFor self.old.items ds → StandsFor self.new.items (ds ++ Note credit.now ∷ []) }
+        ensures reached { (sends credits : ℕ) → ReachedBy sends credits self.old.items → ReachedBy sends (credits + 1) self.new.items }
     {
         let Some(id) = credit.cluster else {
             return;
@@ -172,6 +176,7 @@ impl Clusters {
         ensures answer { (ds : List Deed) → StandsFor self.old.items ds → result ≡ ready (clusters ds) }
         ensures stands { (ds : List Deed) → StandsFor self.old.items ds
             → StandsFor self.new.items (ds ++ takings (listed result)) }
+        ensures reached { (sends credits : ℕ) → ReachedBy sends credits self.old.items → ReachedBy sends credits self.new.items }
 
         // For a loop that takes all of them: it is the first of the outcomes, and the others are left.
         ensures first { outcomes self.old.items ≡ listed result ++ outcomes self.new.items }

@@ -1,2 +1,3 @@
 mod Signalling
 mod Reports
+mod Noting

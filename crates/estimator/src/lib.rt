@@ -4,5 +4,6 @@
 
 mod estimate;
 mod hearing;
+mod report;
 
 pub use estimate::{Estimate, START_ROUND_TRIP};

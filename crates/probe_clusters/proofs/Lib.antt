@@ -4,3 +4,4 @@ pub mod Taking
 pub mod Bounds
 pub mod Together
 pub mod Later
+pub mod Passed

@@ -1,9 +1,9 @@
-ghost use Rattle.std.specs.Prelude.{◌≡◌, ℕ, ◌↔◌, ◌<◌, ◌≤◌, ◌+◌, List, [], ◌∷◌, ◌++◌, length, count_by, position, IsNone, IsSome, IfSome, IfNone, IfErr, IfOk, OnOk, OnErr, IsErr};
+ghost use Rattle.std.specs.Prelude.{◌≡◌, ℕ, ◌↔◌, ◌<◌, ◌≤◌, ◌+◌, ◌^◌, if◌then◌else◌, List, [], ◌∷◌, ◌++◌, length, count_by, position, IsNone, IsSome, IfSome, IfNone, IfErr, IfOk, OnOk, OnErr, IsErr};
 ghost use Rattle.gcc_units.specs.Listed.{bare};
 ghost use Rattle.gcc_units.specs.Rates.{IsRate};
 ghost use Rattle.probe_clusters.specs.declared.cluster.Cluster.{Cluster};
 ghost use Rattle.probe_clusters.specs.Cluster.{planned, waits, is_ready};
-ghost use Rattle.probe_clusters.specs.Clusters.{due, sent, noted, ready, after_ready, outcomes, after_outcomes, listed};
+ghost use Rattle.probe_clusters.specs.Clusters.{AreOver, due, sent, noted, ready, after_ready, outcomes, after_outcomes, listed};
 ghost use Rattle.probe_clusters.specs.Deeds.{Deed, clusters, Plan, Note, StandsFor, ReachedBy, send, takings};
 
 use crate::cluster::Cluster;
@@ -34,6 +34,8 @@ pub struct Outcome {
 pub struct Clusters {
     held: Vec<Cluster>,
     room: u32,
+    // How many at the front no longer wait, which are passed over in the search for the current one.
+    over: u32,
 }
 
 impl Model for Clusters {
@@ -41,12 +43,13 @@ impl Model for Clusters {
     ghost use Rattle.std.specs.Vec.{vec_len, vec_capacity};
     ghost use Rattle.gcc_units.specs.Listed.{Listed};
     ghost use Rattle.probe_clusters.specs.declared.cluster.Cluster.{Cluster};
+    ghost use Rattle.probe_clusters.specs.Clusters.{AreOver};
 
     ghost Value = { Listed Cluster };
 
     ghost view = { λ s. record { items = s.held.items; spare = s.room } };
 
-    ghost invariant = { λ s. (vec_len s.held + s.room ≤ vec_capacity s.held) × (vec_len s.held + s.room < 2 ^ 32) };
+    ghost invariant = { λ s. (vec_len s.held + s.room ≤ vec_capacity s.held) × (vec_len s.held + s.room < 2 ^ 32) × AreOver s.over s.held.items };
 }
 
 impl Clusters {
@@ -59,6 +62,7 @@ impl Clusters {
         Clusters {
             held: Vec::new(alloc),
             room: 0,
+            over: 0,
         }
     }
 
@@ -112,7 +116,7 @@ impl Clusters {
         ensures value { result ≡ count_by waits self.now.items }
         ensures stands { (ds : List Deed) → StandsFor self.now.items ds → result ≡ count_by waits (clusters ds) }
     {
-        count_waiting(self.held.as_slice()) as u32
+        count_waiting(self.held.as_slice(), self.over as usize) as u32
     }
 
     /// The id of the current cluster, the waiting one with the least id, where it is due: nothing was
@@ -123,7 +127,7 @@ impl Clusters {
         ensures bound { IfSome result (λ id. id < length self.now.items) }
         ensures stands { (ds : List Deed) → StandsFor self.now.items ds → result ≡ due (clusters ds) now }
     {
-        let id = current(self.held.as_slice())?;
+        let id = current(self.held.as_slice(), self.over as usize)?;
         if self.held[id].is_due(now) {
             Some(id as u32)
         } else {
@@ -142,10 +146,12 @@ impl Clusters {
             → StandsFor self.new.items (ds ++ send (due self.old.items now) size now) }
         ensures reached { (sends credits : ℕ) → ReachedBy sends credits self.old.items → ReachedBy (sends + 1) credits self.new.items }
     {
-        let Some(id) = current(self.held.as_slice()) else {
+        let Some(id) = current(self.held.as_slice(), self.over as usize) else {
             unreachable!()
         };
-        self.held[id] = self.held[id].with_packet(size, now);
+        let cluster = self.held[id].with_packet(size, now);
+        self.held[id] = cluster;
+        self.over = over_from(id, &cluster);
     }
 
     /// Counts the credit of a cluster's packet. A credit that names no cluster changes nothing, nor
@@ -218,17 +224,48 @@ impl Clusters {
     }
 }
 
-fn count_waiting(clusters: &[Cluster]) -> usize
+// How many clusters wait, of which so many at the front do not.
+fn count_waiting(clusters: &[Cluster], over: usize) -> usize
+    requires { AreOver over clusters.now }
+    ensures { result ≡ count_by waits clusters.now }
+{
+    count_in(&clusters[over..])
+}
+
+fn count_in(clusters: &[Cluster]) -> usize
     ensures { result ≡ count_by waits clusters.now }
 {
     clusters.iter().filter(|c| c.waits()).count()
 }
 
-// The waiting cluster with the least id.
-fn current(clusters: &[Cluster]) -> Option<usize>
+// The waiting cluster with the least id; so many at the front do not wait.
+fn current(clusters: &[Cluster], over: usize) -> Option<usize>
+    requires { AreOver over clusters.now }
     ensures { result ≡ position waits clusters.now }
 {
+    match first_in(&clusters[over..]) {
+        Some(place) => Some(over + place),
+        None => None,
+    }
+}
+
+fn first_in(clusters: &[Cluster]) -> Option<usize>
+    ensures value { result ≡ position waits clusters.now }
+    ensures bound { IfSome result (λ place. place < length clusters.now) }
+{
     clusters.iter().position(|c| c.waits())
+}
+
+// How many clusters are over, where those before this one are.
+fn over_from(id: usize, cluster: &Cluster) -> u32
+    requires { id + 1 < 2 ^ 32 }
+    ensures { result ≡ (if waits cluster.now then id else id + 1) }
+{
+    if cluster.waits() {
+        id as u32
+    } else {
+        id as u32 + 1
+    }
 }
 
 // The cluster with the least id that has a result and gave none.

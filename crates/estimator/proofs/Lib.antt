@@ -1,3 +1,4 @@
 mod Signalling
 mod Reports
 mod Noting
+mod Taking

@@ -9,7 +9,7 @@ use Rattle.gcc_units.specs.declared.shared_types.Signal.{Signal}
 use Rattle.packet_groups.specs.declared.step.State as groups_state
 use Rattle.arrival_filter.specs.Filter as filter
 use Rattle.overuse.specs.Detector as detector
-use Rattle.estimator.specs.Signals.{signals, heard, heard_next, report_signal, listed, Follow, TakeCredits, IsSentBy}
+use Rattle.estimator.specs.Signals.{signals, heard, heard_next, report_signal, listed, Follow, TakesCredits, IsSentBy}
 
 -- these credits of a report were heard
 pub record Hears (before received : List Credit) (g : groups_state.State) (f : filter.State) (d : detector.State) (found : Option Signal) : Type 0 where
@@ -45,8 +45,8 @@ hears_more before xs i none g f d found inside h g' f' d' signal follows says fo
       follow = subst P whole (follows (before ++ take i xs) h.follow);
       fresh = h.fresh ++ listed signal;
       signals_are =
-        ap signals (sym whole) ∙ says (before ++ take i xs) h.follow ∙ ap (λ (ss : List Signal). ss ++ listed signal) h.signals_are
-        ∙ append_assoc (signals before) h.fresh (listed signal);
+          ap signals (sym whole) ∙ says (before ++ take i xs) h.follow ∙ ap (λ (ss : List Signal). ss ++ listed signal) h.signals_are
+          ∙ append_assoc (signals before) h.fresh (listed signal);
       found_is = e ∙ ap (λ (o : Option Signal). fold heard_next o (listed signal)) h.found_is ∙ sym (fold-append heard_next None h.fresh (listed signal));
     }
 
@@ -57,7 +57,7 @@ hears_all before received g f d found h =
 
 -- the credit at a place may be given next
 pub takes_next : (xs : List Credit) (i : ℕ) (none : Credit) (g g' : groups_state.State) (f f' : filter.State) (d d' : detector.State)
-    → i < length xs → (r : TakeCredits xs g f d) → Follow (r.before ++ take i xs) g' f' d' → TakeCredits (get_or xs i none ∷ []) g' f' d'
+    → i < length xs → (r : TakesCredits xs g f d) → Follow (r.before ++ take i xs) g' f' d' → TakesCredits (get_or xs i none ∷ []) g' f' d'
 takes_next xs i none g g' f f' d d' inside r follow = record {
   before = r.before ++ take i xs;
   follow = follow;

@@ -21,9 +21,12 @@ steps-push f (y ∷ ys) x = ap (λ (zs : List detector.Step). step_of f y ∷ zs
 steps-gap : (f : filter.State) (xs : List Sample) → detected.total_gap (steps_from f xs) ≡ total_gap xs
 steps-gap f [] = refl
 steps-gap f (x ∷ xs) =
-    omega (arith, steps-gap (filter.step f x) xs,
-    sum_by-append (λ (y : detector.Step). y.sample.send_gap) (step_of f x ∷ []) (steps_from (filter.step f x) xs),
-    sum_by-append (λ (y : Sample). y.send_gap) (x ∷ []) xs)
+    omega (
+      arith,
+      steps-gap (filter.step f x) xs,
+      sum_by-append (λ (y : detector.Step). y.sample.send_gap) (step_of f x ∷ []) (steps_from (filter.step f x) xs),
+      sum_by-append (λ (y : Sample). y.send_gap) (x ∷ []) xs,
+    )
 
 -- the send gap of a credit's sample ends before the last departure
 pub gap_fits : (before : List Credit) (c : Credit) (s : Sample) (moment : ℕ) → GapsAreShort → samples (before ++ c ∷ []) ≡ samples before ++ s ∷ []
@@ -53,11 +56,11 @@ module _ (before : List Credit) (c : Credit) (s : Sample) (g : groups_state.Stat
   follow_sample g' f' d' stands ef ed = record {
     groups = stands;
     filter =
-      ef ∙ ap (λ (k : filter.State). filter.step k s) follow.filter ∙ sym (fold-append filter.step filter.start (samples before) (s ∷ []))
-      ∙ sym (ap filter.filter_state grows);
+        ef ∙ ap (λ (k : filter.State). filter.step k s) follow.filter ∙ sym (fold-append filter.step filter.start (samples before) (s ∷ []))
+        ∙ sym (ap filter.filter_state grows);
     detector =
-      ed ∙ ap (λ (k : detector.State). detector.after k (step_of f s)) follow.detector
-      ∙ sym (fold-append detector.after detector.start (steps (samples before)) (step_of f s ∷ [])) ∙ sym (ap detector.detector_state steps-grow);
+        ed ∙ ap (λ (k : detector.State). detector.after k (step_of f s)) follow.detector
+        ∙ sym (fold-append detector.after detector.start (steps (samples before)) (step_of f s ∷ [])) ∙ sym (ap detector.detector_state steps-grow);
   }
 
   -- and there is one signal more

@@ -1,2 +1,4 @@
 pub mod Signals
 pub mod Report
+pub mod Est
+pub mod Kept

@@ -5,6 +5,8 @@ use Rattle.gcc_units.specs.declared.shared_types.Credit.{Credit}
 use Rattle.gcc_units.specs.declared.shared_types.Signal.{Signal}
 use Rattle.gcc_units.specs.declared.limits.TheConstants.{GREATEST_PACKET, MOST_PACKETS}
 use Rattle.gcc_units.specs.Rates.{bounded}
+use Rattle.acked_rate.specs.Received.{Add, acked}
+use Rattle.acked_rate.specs.Kept as windowed
 use Rattle.rate_control.specs.declared.TheConstants.{GREATEST_ROUND_TRIP}
 use Rattle.rate_control.specs.declared.state.State as control_state
 use Rattle.rate_control.specs.Steps as control
@@ -62,8 +64,25 @@ abbrev pub IsSmall : Credit → Type 0
 IsSmall c = c.size ≤ GREATEST_PACKET
 
 -- Beside the credits of before, no more than the most in all, each of a cluster that was planned.
-pub record TakeNotes (cs : List Cluster) (received : List Credit) : Type 0 where
+pub record TakesNotes (cs : List Cluster) (received : List Credit) : Type 0 where
   pub before : ℕ
   pub reached : ReachedBy MOST_PACKETS before cs
   pub few : before + length received ≤ MOST_PACKETS
   pub named : All (NamesPlanned cs) received
+
+-- ---- the received rate
+
+-- what the window is given of a credit
+abbrev pub add_of : Credit → Add
+add_of c = record { arrival = c.arrival; size = c.size }
+
+-- the received rate over all these credits
+abbrev pub acked_of : List Credit → Option ℕ
+acked_of credits = acked (map add_of credits)
+
+-- Beside the packets of before, no more than the most in all.
+pub record TakesAdds (now : windowed.Kept) (received : ℕ) : Type 0 where
+  pub before : List Add
+  pub stands : windowed.StandsFor now before
+  pub within : All windowed.IsWithin before
+  pub few : length before + received ≤ MOST_PACKETS

@@ -68,7 +68,7 @@ abbrev pub IsSentBy : ℕ → Credit → Type 0
 IsSentBy moment c = c.sent_at ≤ moment
 
 -- Beside the credits of before, no more than the most in all, and each sent by some moment.
-pub record TakeCredits (received : List Credit) (g : groups_state.State) (f : filter.State) (d : detector.State) : Type 0 where
+pub record TakesCredits (received : List Credit) (g : groups_state.State) (f : filter.State) (d : detector.State) : Type 0 where
   pub before : List Credit
   pub follow : Follow before g f d
   pub few : length before + length received ≤ MOST_PACKETS

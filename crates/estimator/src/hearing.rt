@@ -8,7 +8,7 @@ ghost use Rattle.arrival_filter.specs.Filter as filtered;
 ghost use Rattle.arrival_filter.specs.Given as given;
 ghost use Rattle.overuse.specs.Detector as detected;
 ghost use Rattle.overuse.specs.Given as stepped;
-ghost use Rattle.estimator.specs.Signals.{step_of, steps, signals, heard_next, report_signal, listed, Follow, TakeCredits};
+ghost use Rattle.estimator.specs.Signals.{step_of, steps, signals, heard_next, report_signal, listed, Follow, TakesCredits};
 
 use arrival_filter::Filter;
 use gcc_units::{Credit, Sample, Signal};
@@ -36,7 +36,7 @@ fn take_credit(
     credit: &Credit,
 ) -> Option<Signal>
     requires within { IsWithin credit.now }
-    requires room { TakeCredits (credit.now ∷ []) groups.old filter.old detector.old }
+    requires room { TakesCredits (credit.now ∷ []) groups.old filter.old detector.old }
     ensures follow { (before : List Credit) → Follow before groups.old filter.old detector.old
         → Follow (before ++ credit.now ∷ []) groups.new filter.new detector.new }
     ensures signal { (before : List Credit) → Follow before groups.old filter.old detector.old
@@ -66,7 +66,7 @@ pub fn hear(
     received: &[Credit],
 ) -> Option<Signal>
     requires within { All IsWithin received.now }
-    requires room { TakeCredits received.now groups.old filter.old detector.old }
+    requires room { TakesCredits received.now groups.old filter.old detector.old }
     ensures follow { (before : List Credit) → Follow before groups.old filter.old detector.old
         → Follow (before ++ received.now) groups.new filter.new detector.new }
     ensures signal { (before : List Credit) → Follow before groups.old filter.old detector.old

@@ -1,16 +1,19 @@
 //! What a report changes beside what its credits say of the path.
 
-ghost use Rattle.std.specs.Prelude.{◌≡◌, ◌≤◌, ◌+◌, ℕ, ◌++◌, List, All, fold, map, length};
+ghost use Rattle.std.specs.Prelude.{◌≡◌, ◌≤◌, ◌+◌, ℕ, [], ◌∷◌, ◌++◌, List, All, fold, map, length};
 ghost use Rattle.std.specs.Option.{ForSome};
 ghost use Rattle.gcc_units.specs.declared.shared_types.Credit.{Credit};
 ghost use Rattle.gcc_units.specs.Rates.{IsBounds, IsInBounds};
+ghost use Rattle.acked_rate.specs.Received.{Add};
+ghost use Rattle.acked_rate.specs.Kept as windowed;
 ghost use Rattle.loss_control.specs.Rule.{Counts};
 ghost use Rattle.loss_control.specs.Given as counted;
 ghost use Rattle.probe_clusters.specs.Heard.{later_of};
 ghost use Rattle.probe_clusters.specs.Clusters.{outcomes};
 ghost use Rattle.probe_clusters.specs.Deeds as deeds;
-ghost use Rattle.estimator.specs.Report.{round_trip, delay_after, delay_probed, loss_probed, delay_taking, loss_taking, IsSmall, TakeNotes};
+ghost use Rattle.estimator.specs.Report.{round_trip, add_of, delay_after, delay_probed, loss_probed, delay_taking, loss_taking, IsSmall, TakesNotes, TakesAdds};
 
+use acked_rate::Window;
 use gcc_units::{Bounds, Credit, GREATEST_RATE, Moment, Rate, Signal};
 use loss_control::Loss;
 use probe_clusters::Clusters;
@@ -31,8 +34,32 @@ pub fn round_trip(rtt: u64, received: &[Credit], now: Moment) -> u64
     let Some((first, rest)) = received.split_first() else {
         return rtt;
     };
-    let latest = rest.iter().fold(*first, |latest, credit| later_of(latest, *credit));
+    let latest = rest
+        .iter()
+        .fold(*first, |latest, credit| later_of(latest, *credit));
     GREATEST_ROUND_TRIP.min(now.saturating_sub(latest.sent_at))
+}
+
+/// Adds a packet that was received to the window.
+fn add_credit(window: &mut Window, credit: &Credit)
+    requires within { windowed.IsWithin (add_of credit.now) }
+    requires few { windowed.TakesAdd window.old }
+    ensures { (adds : List Add) → windowed.StandsFor window.old adds
+        → windowed.StandsFor window.new (adds ++ add_of credit.now ∷ []) }
+{
+    window.add(credit.arrival, credit.size);
+}
+
+/// Adds what was received to the window.
+pub fn add_all(window: &mut Window, received: &[Credit])
+    requires within { All (λ (c : Credit). windowed.IsWithin (add_of c)) received.now }
+    requires room { TakesAdds window.old (length received.now) }
+    ensures { (adds : List Add) → windowed.StandsFor window.old adds
+        → windowed.StandsFor window.new (adds ++ map add_of received.now) }
+{
+    for credit in received {
+        add_credit(window, credit);
+    }
 }
 
 /// One step of delay control where the report gave a signal, and none else.
@@ -59,7 +86,7 @@ pub fn step_if_heard(
 /// Counts the credits at their clusters.
 pub fn note_all(clusters: &mut Clusters, received: &[Credit])
     requires small { All IsSmall received.now }
-    requires room { TakeNotes clusters.old.items received.now }
+    requires room { TakesNotes clusters.old.items received.now }
     ensures stands { (ds : List deeds.Deed) → deeds.StandsFor clusters.old.items ds
         → deeds.StandsFor clusters.new.items (ds ++ map deeds.Note received.now) }
     ensures reached { (sends credits : ℕ) → deeds.ReachedBy sends credits clusters.old.items

@@ -6,8 +6,7 @@ use Rattle.estimator.proofs.hearing.take_credit.Goals as goal
 
 pub take_sample-requires-clause-room : goal.take_sample-requires-clause-room
 take_sample-requires-clause-room c =
-    let r = c.requires.room in
-    (
+    let r = c.requires.room in (
       steps (samples r.before),
       r.follow.detector,
       omega (arith, r.greatest, gap_fits r.before c.args.credit.now c.in_ok-sample.sample r.moment c.samples_stay_few.ensures.short (c.in_ok-sample.ensures.sample r.before r.follow.groups) r.earlier r.sent),

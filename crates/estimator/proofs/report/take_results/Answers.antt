@@ -17,21 +17,20 @@ loop-outcome-preserved c =
     let first : outcomes c.loop-outcome.clusters.items ≡ o ∷ rest = c.in-Some.ensures.first in
     record {
       delay =
-        ap (λ (s : control_state.State). delay_taking bounds s rest) c.take_result.ensures.delay
-        ∙ ap (delay_taking bounds c.loop-outcome.delay) (sym first) ∙ so_far.delay;
+          ap (λ (s : control_state.State). delay_taking bounds s rest) c.take_result.ensures.delay
+          ∙ ap (delay_taking bounds c.loop-outcome.delay) (sym first) ∙ so_far.delay;
       loss =
-        ap (λ (s : loss_state.State). loss_taking bounds s rest) c.take_result.ensures.loss
-        ∙ ap (loss_taking bounds c.loop-outcome.loss) (sym first) ∙ so_far.loss;
+          ap (λ (s : loss_state.State). loss_taking bounds s rest) c.take_result.ensures.loss
+          ∙ ap (loss_taking bounds c.loop-outcome.loss) (sym first) ∙ so_far.loss;
       reports = λ reports stands. c.take_result.ensures.reports reports (so_far.reports reports stands);
       delay_in_bounds = λ inside. c.take_result.ensures.delay_in_bounds (so_far.delay_in_bounds inside);
       loss_in_bounds = λ inside. c.take_result.ensures.loss_in_bounds (so_far.loss_in_bounds inside);
       stands = λ ds stands.
-      let past = so_far.stands ds stands in
-      (
-        past.0 ++ takings (o ∷ []),
-        c.in-Some.ensures.stands past.0 past.1,
-        takings_more past.0 _ o (outcomes c.loop-outcome.clusters.items) rest first past.2,
-      );
+          let past = so_far.stands ds stands in (
+            past.0 ++ takings (o ∷ []),
+            c.in-Some.ensures.stands past.0 past.1,
+            takings_more past.0 _ o (outcomes c.loop-outcome.clusters.items) rest first past.2,
+          );
       reached = λ sends credits reached. c.in-Some.ensures.reached sends credits (so_far.reached sends credits reached);
       spare = c.in-Some.ensures.spare ∙ so_far.spare;
     }

@@ -16,7 +16,7 @@ invariant-loop-outcome l = record {
   delay_in_bounds : IsInBounds l.bounds l.initial.delay.rate → IsInBounds l.bounds l.delay.rate;
   loss_in_bounds : IsInBounds l.bounds l.initial.loss.estimate → IsInBounds l.bounds l.loss.estimate;
   stands : (ds : List Deed) → StandsFor l.initial.clusters.items ds
-    → (es : List Deed) × StandsFor l.clusters.items es × ((es ++ takings (outcomes l.clusters.items)) ≡ (ds ++ takings (outcomes l.initial.clusters.items)));
+      → (es : List Deed) × StandsFor l.clusters.items es × ((es ++ takings (outcomes l.clusters.items)) ≡ (ds ++ takings (outcomes l.initial.clusters.items)));
   reached : (sends credits : ℕ) → ReachedBy sends credits l.initial.clusters.items → ReachedBy sends credits l.clusters.items;
   spare : l.clusters.spare ≡ l.initial.clusters.spare;
 }

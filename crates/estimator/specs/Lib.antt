@@ -2,3 +2,4 @@ pub mod Signals
 pub mod Report
 pub mod Est
 pub mod Kept
+pub mod Laws

@@ -90,8 +90,10 @@ impl Estimator {
     }
 
     /// Takes a report: what it credited and how many packets it reported missing, with the clusters that its
-    /// credits name. Delay control makes a step where the report gave a sample, loss control in any case;
-    /// then both take the results of the clusters that have one. It answers the estimate.
+    /// credits name, at a moment in microseconds. Each credit goes to groups, filter and detector, to the
+    /// window, and to its cluster. Then delay control makes a step where a sample came of them, by `Over`
+    /// where one of them gave it, and else by the signal of the last one; loss control makes a step in any
+    /// case; and both take the results of the clusters that have one. It answers the estimate.
     pub fn judge(
         &mut self,
         judged: &Judged,
@@ -112,6 +114,8 @@ impl Estimator {
         ensures answer { (e : Est) (ds : List deeds.Deed) → StandsFor self.old e → deeds.StandsFor clusters.old.items ds
             → result ≡ estimate (judged_est e judged.now.received.items judged.now.missing now bounds (found ds judged.now.received.items)) }
         ensures rates { AreRates result }
+
+        // Without a sample delay control makes no step, so only where both were in these bounds before.
         ensures in_bounds { (e : Est) → StandsFor self.old e → AreInBounds bounds (estimate e) → AreInBounds bounds result }
 
         // The clusters were given the credits, and the results were taken.
@@ -174,3 +178,6 @@ impl Estimator {
         }
     }
 }
+
+#[cfg(test)]
+mod tests;

@@ -1,0 +1,5 @@
+pub mod Heard
+pub mod Cluster
+pub mod Clusters
+pub mod Deeds
+pub mod Laws

@@ -1,12 +1,12 @@
 -- The loop of a pace: what was sent so far, and what is still to be sent, are the whole.
-use Rattle.std.proofs.Common.{◌≡◌, ℕ, suc, zero, ◌+◌, ◌-◌, ◌<◌, ◌≤◌, Option, None, Some, List, [], ◌∷◌, ◌++◌, length, refl, sym, ◌∙◌, ap, subst, arith, append_assoc, length-append}
+use Rattle.std.proofs.Common.{◌≡◌, ℕ, suc, zero, ◌+◌, ◌-◌, ◌<◌, ◌≤◌, None, Some, List, [], ◌∷◌, ◌++◌, length, refl, sym, ◌∙◌, ap, arith, append_assoc, length-append}
 use Rattle.std.proofs.lemmas.List.{append-nil}
 use Rattle.gcc_units.specs.declared.limits.TheConstants.{MOST_SENDS}
 use Rattle.pace_queues.specs.declared.ticket.Ticket.{Ticket}
-use Rattle.pace_queues.specs.Waiting.{next, without, rest, without_one}
+use Rattle.pace_queues.specs.Waiting.{next, rest, without_one}
 use Rattle.pacer.specs.declared.sent.Sent.{Sent}
 use Rattle.pacer.specs.declared.sent.Kind.{Kind}
-use Rattle.pacer.specs.Pace.{unsent, kind_of, record_of, Standing, record_if, rule, after, then_on, paced, paced-zero, paced-suc}
+use Rattle.pacer.specs.Pace.{unsent, kind_of, record_of, Standing, record_if, after, then_on, paced, paced-zero, paced-suc}
 use Rattle.pacer.specs.Records.{unsent-then, unsent-none, unsent-one}
 
 pub record IsPacing (begun : Standing) (most : ℕ) (done : List Sent) (waits : List Ticket) (number : ℕ) : Type 0 where

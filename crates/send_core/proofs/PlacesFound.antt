@@ -1,10 +1,10 @@
 -- Where an accepted packet stands, its entry is that of its enqueue.
-use Rattle.std.proofs.Common.{◌≡◌, ℕ, suc, zero, ◌+◌, ◌-◌, ◌<◌, ◌≤◌, Option, None, Some, List, [], ◌∷◌, ◌++◌, length, map, slice_get, refl, sym, ◌∙◌, ap, subst, arith, length-append, append_assoc, ◌==◌, Bool, true, false}
+use Rattle.std.proofs.Common.{◌≡◌, ℕ, suc, zero, ◌+◌, ◌-◌, ◌<◌, ◌≤◌, None, Some, List, [], ◌∷◌, ◌++◌, length, map, slice_get, refl, sym, ◌∙◌, ap, arith, length-append, append_assoc, ◌==◌, true, false}
 use Rattle.std.proofs.lemmas.List.{append-nil, length-map}
-use Rattle.send_core.specs.declared.call.Call.{Call}
-use Rattle.send_core.specs.declared.call.Call.TheVariants.{Enqueue, Pace}
+use Rattle.send_core.specs.declared.call.Call.TheVariants.{Enqueue, Pace, Report, Configure}
+use Rattle.send_core.specs.declared.call.Change.{Change}
 use Rattle.send_core.specs.declared.call.Reply.{Reply}
-use Rattle.send_core.specs.declared.call.Reply.TheVariants.{Accepted, Paced, Refused}
+use Rattle.send_core.specs.declared.call.Reply.TheVariants.{Accepted, Paced, Credited, Configured, Refused}
 use Rattle.send_core.specs.declared.call.Entry.{Entry}
 use Rattle.send_core.specs.History.{AcceptedPacket, accepted_by, accepted, wire_in}
 use Rattle.send_core.specs.Places.{places_from}
@@ -126,10 +126,22 @@ no_pace h k e at p is =
     let none : [] ≡ p.packet ∷ [] = sym (ap (λ c. accepted_by c e.reply) is) ∙ p.accepts in
     absurd cc
 
+pub no_report : (h : List Entry) (k : ℕ) (e : Entry) (at : ℕ) (bytes : Listed ℕ) → IsPlaced h k e → e.call ≡ Report at bytes → ⊥
+no_report h k e at bytes p is =
+    let none : [] ≡ p.packet ∷ [] = sym (ap (λ c. accepted_by c e.reply) is) ∙ p.accepts in
+    absurd cc
+
+pub no_configure : (h : List Entry) (k : ℕ) (e : Entry) (at : ℕ) (change : Change) → IsPlaced h k e → e.call ≡ Configure at change → ⊥
+no_configure h k e at change p is =
+    let none : [] ≡ p.packet ∷ [] = sym (ap (λ c. accepted_by c e.reply) is) ∙ p.accepts in
+    absurd cc
+
 enqueue_wire : (at : ℕ) (class : Class) (wire : Listed ℕ) (given : Reply) (p : AcceptedPacket) → accepted_by (Enqueue at class wire) given ≡ p ∷ [] → p.wire ≡ wire.items
 enqueue_wire at class wire (Accepted moment index) p is =
     let same : p ≡ record { class = class; wire = wire.items; moment = moment } = cc in ap (λ (q : AcceptedPacket). q.wire) same
 enqueue_wire at class wire (Paced moment records) p is = absurd cc
+enqueue_wire at class wire (Credited moment judged signal m rate_in rates shares) p is = absurd cc
+enqueue_wire at class wire (Configured moment rates shares) p is = absurd cc
 enqueue_wire at class wire (Refused moment cause) p is = absurd cc
 
 pub enqueued_wire : (h : List Entry) (k : ℕ) (e : Entry) (at : ℕ) (class : Class) (wire : Listed ℕ) → IsPlaced h k e → e.call ≡ Enqueue at class wire

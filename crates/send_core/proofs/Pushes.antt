@@ -1,19 +1,19 @@
 -- What one more entry does to the lists and numbers of a history.
-use Rattle.std.proofs.Common.{◌≡◌, ℕ, suc, zero, ◌+◌, ◌*◌, ◌<◌, ◌≤◌, Option, None, Some, List, [], ◌∷◌, ◌++◌, length, fold, All, refl, sym, ◌∙◌, ap, subst, arith, append_assoc, length-append, get_or}
+use Rattle.std.proofs.Common.{◌≡◌, ℕ, suc, ◌+◌, ◌≤◌, Option, None, Some, List, [], ◌∷◌, ◌++◌, length, All, refl, ◌∙◌, ap, arith, length-append, get_or}
 use Rattle.std.specs.List.{flat_map}
 use Rattle.std.proofs.lemmas.List.{append-nil}
 use Rattle.std.proofs.lemmas.List.Sums.{fold-append}
-use Rattle.std.proofs.lemmas.List.Elements.{All-nil, All-cons, All-append, All-filter}
+use Rattle.std.proofs.lemmas.List.Elements.{All-nil, All-cons, All-filter}
 use Rattle.std.proofs.lemmas.Grind.{flat_map-append}
 use Rattle.pace_queues.specs.declared.ticket.Ticket.{Ticket}
 use Rattle.pace_queues.specs.Waiting.{HasIndexBelow}
 use Rattle.pacer.specs.declared.sent.Sent.{Sent}
-use Rattle.pacer.specs.Pace.{names, IsBelow, NamesBelow, unsent}
+use Rattle.pacer.specs.Pace.{IsBelow, NamesBelow, unsent}
 use Rattle.pacer.specs.Records.{unsent-append, unsent-then, unsent-later}
 use Rattle.send_core.specs.declared.call.Call.{Call}
-use Rattle.send_core.specs.declared.call.Call.TheVariants.{Enqueue, Pace}
+use Rattle.send_core.specs.declared.call.Call.TheVariants.{Enqueue}
 use Rattle.send_core.specs.declared.call.Reply.{Reply}
-use Rattle.send_core.specs.declared.call.Reply.TheVariants.{Accepted, Paced, Refused}
+use Rattle.send_core.specs.declared.call.Reply.TheVariants.{Accepted}
 use Rattle.send_core.specs.declared.call.Entry.{Entry}
 use Rattle.send_core.specs.History.{later, now, AcceptedPacket, accepted_by, accepted, ticket_of, tickets_from, tickets, sent_by, sent, waiting}
 

@@ -1,5 +1,5 @@
 -- An accepted packet can be read again, and stamped.
-use Rattle.std.proofs.Common.{◌≡◌, ℕ, suc, zero, ◌+◌, ◌<◌, ◌≤◌, ◌%◌, Option, None, Some, Ok, Err, List, [], ◌∷◌, ◌++◌, length, map, slice_get, All, refl, sym, ◌∙◌, ap, subst, arith}
+use Rattle.std.proofs.Common.{◌≡◌, ℕ, suc, zero, ◌≤◌, Option, Some, Ok, Err, List, [], ◌∷◌, length, map, slice_get, All, refl, sym, ◌∙◌, ap, arith}
 use Rattle.std.proofs.lemmas.List.Elements.{All-head, All-tail}
 use Rattle.gcc_units.specs.declared.limits.TheConstants.{GREATEST_PACKET}
 use Rattle.rtp_wire.specs.declared.packet.WireFault.{WireFault}

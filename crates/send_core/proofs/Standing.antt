@@ -1,14 +1,14 @@
 -- The parts that stood for a history stand for it with one more entry.
-use Rattle.std.proofs.Common.{◌≡◌, ℕ, suc, zero, ◌+◌, ◌*◌, ◌<◌, ◌≤◌, List, [], ◌∷◌, ◌++◌, length, All, refl, sym, ◌∙◌, ap, subst, arith, min, length-append}
-use Rattle.std.proofs.lemmas.List.Elements.{All-nil, All-append}
-use Rattle.gcc_units.specs.declared.limits.TheConstants.{GREATEST_MOMENT, MOST_SENDS, MOST_ENTRIES}
+use Rattle.std.proofs.Common.{◌≡◌, ℕ, ◌+◌, ◌*◌, ◌≤◌, List, [], ◌∷◌, ◌++◌, length, All, sym, ◌∙◌, ap, subst, arith, min, length-append}
+use Rattle.std.proofs.lemmas.List.Elements.{All-append}
+use Rattle.gcc_units.specs.declared.limits.TheConstants.{MOST_SENDS}
 use Rattle.pacer.specs.Pace.{NamesBelow, unsent}
 use Rattle.send_core.specs.declared.call.Call.{Call}
 use Rattle.send_core.specs.declared.call.Reply.{Reply}
 use Rattle.send_core.specs.declared.call.Entry.{Entry}
 use Rattle.send_core.specs.declared.parts.Parts.{Parts}
-use Rattle.send_core.specs.History.{entry, later, now, accepted_by, accepted, tickets_from, sent_by, sent, waiting}
-use Rattle.send_core.specs.Stands.{IsReadable, Laws, StandsFor, Steps}
+use Rattle.send_core.specs.History.{entry, later, accepted_by, accepted, tickets_from, sent_by, sent, waiting}
+use Rattle.send_core.specs.Stands.{IsReadable, StandsFor, Steps}
 use Rattle.send_core.proofs.Pushes.{now-push, accepted-push, sent-push, waiting-push, NamesBelow-more}
 
 pub stands-push : (h : List Entry) (p q : Parts) (caller : ℕ) (call : Call) (given : Reply)

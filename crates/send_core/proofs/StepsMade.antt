@@ -1,5 +1,5 @@
 -- What each kind of outcome does to the parts.
-use Rattle.std.proofs.Common.{◌≡◌, ℕ, ◌+◌, ◌*◌, ◌<◌, ◌≤◌, Bool, true, false, List, [], ◌∷◌, ◌++◌, length, All, Ok, Err, Result, nat_lt, cond, refl, sym, ◌∙◌, ap, subst, arith, min, max, lt-ltb, le-ltb}
+use Rattle.std.proofs.Common.{◌≡◌, ℕ, ◌+◌, ◌<◌, ◌≤◌, Bool, true, false, List, [], ◌∷◌, ◌++◌, length, All, Ok, Err, Result, nat_lt, cond, refl, sym, ◌∙◌, ap, arith, min, max, lt-ltb, le-ltb}
 use Rattle.std.proofs.lemmas.List.{append-nil}
 use Rattle.std.proofs.lemmas.Bool.Decides.{nat_tests}
 use Rattle.std.proofs.lemmas.List.Elements.{All-nil, All-cons}
@@ -9,7 +9,6 @@ use Rattle.gcc_units.specs.declared.limits.TheConstants.{GREATEST_MOMENT, GREATE
 use Rattle.rtp_wire.specs.declared.packet.WireFault.{WireFault}
 use Rattle.rtp_wire.specs.declared.packet.WireFault.TheVariants.{Short, Long}
 use Rattle.rtp_wire.specs.Place.{place_of}
-use Rattle.pace_queues.specs.declared.ticket.Ticket.{Ticket}
 use Rattle.pacer.specs.declared.sent.Sent.{Sent}
 use Rattle.pacer.specs.Pace.{NamesBelow, unsent}
 use Rattle.pacer.specs.Records.{unsent-none}
@@ -19,7 +18,8 @@ use Rattle.send_core.specs.declared.call.Reply.{Reply}
 use Rattle.send_core.specs.declared.call.Reply.TheVariants as reply_kind
 use Rattle.send_core.specs.declared.parts.Parts.{Parts}
 use Rattle.send_core.specs.declared.settings.TheConstants.{EXTENSION_ID}
-use Rattle.send_core.specs.History.{at_of, later, AcceptedPacket, accepted_by, ticket_of, tickets_from, sent_by}
+use Rattle.send_core.specs.History.{at_of, later, accepted_by, sent_by}
+use Rattle.send_core.specs.Settled.{credits_by, shares_by}
 use Rattle.send_core.specs.Stands.{IsReadable, Steps}
 
 -- ---- a packet that can be read is small
@@ -46,8 +46,9 @@ later-in_time moment call early = rw (le-ltb GREATEST_MOMENT (at_of call) early)
 -- ---- outcomes
 
 pub steps_refused : (call : Call) (given : Reply) (p q : Parts) → accepted_by call given ≡ [] → sent_by given ≡ []
+    → credits_by given ≡ [] → shares_by given ≡ []
     → q.moment ≡ later p.moment call → q.moment ≤ GREATEST_MOMENT → q.accepted ≡ p.accepted → q.sent ≡ p.sent → q.queues ≡ p.queues → Steps call given p q
-steps_refused call given p q none no_sends clock in_time count number queue = record {
+steps_refused call given p q none no_sends no_credits no_shares clock in_time count number queue = record {
   clock = clock;
   in_time = in_time;
   count = rw none (omega (arith, count));
@@ -56,6 +57,8 @@ steps_refused call given p q none no_sends clock in_time count number queue = re
   few = rw no_sends (omega arith);
   known = rw no_sends (All-nil (NamesBelow p.accepted));
   readable = rw none (All-nil IsReadable);
+  no_credits = no_credits;
+  no_shares = no_shares;
 }
 
 pub steps_accepted : (at moment : ℕ) (class : Class) (wire : Listed ℕ) (place size : ℕ) (p q : Parts)
@@ -72,6 +75,8 @@ steps_accepted at moment class wire place size p q reads sized clock in_time mov
   queue = queue ∙ (ap (λ n. p.queues ++ (record { index = p.accepted; class = class; size = n; accepted_at = moment }) ∷ []) sized ∙ sym (unsent-none _));
   few = omega arith;
   known = All-nil (NamesBelow p.accepted);
+  no_credits = refl;
+  no_shares = refl;
   readable = All-cons IsReadable (record { class = class; wire = wire.items; moment = moment }) []
       (record { place = place; is_place = reads; small = place_of-small EXTENSION_ID wire.items place reads }) (All-nil IsReadable);
 }
@@ -90,4 +95,6 @@ steps_paced at moment records p q clock in_time count number queue few known = r
   few = few;
   known = known;
   readable = All-nil IsReadable;
+  no_credits = refl;
+  no_shares = refl;
 }

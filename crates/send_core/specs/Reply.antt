@@ -1,13 +1,12 @@
 -- The reply to a call, by the entries before it, and the histories in which each reply is that one.
-use Rattle.std.specs.Prelude.{◌≡◌, ℕ, ◌+◌, ◌*◌, ◌≤◌, nat_lt, if◌then◌else◌, Option, Some, List, length, take, slice_get, Result, Ok, Err}
-use Rattle.gcc_units.specs.declared.class.Class.{Class}
+use Rattle.std.specs.Prelude.{◌≡◌, ℕ, ◌+◌, ◌*◌, ◌≤◌, nat_lt, if◌then◌else◌, Some, List, length, take, slice_get, Result, Ok, Err}
 use Rattle.gcc_units.specs.declared.limits.TheConstants.{GREATEST_MOMENT, MOST_WAITING, MOST_SENDS, MOST_ENTRIES}
 use Rattle.gcc_units.specs.Listed.{bare}
 use Rattle.rtp_wire.specs.declared.packet.WireFault.{WireFault}
 use Rattle.rtp_wire.specs.Place.{place_of}
 use Rattle.pacer.specs.Pace.{Standing, paced}
 use Rattle.send_core.specs.declared.call.Call.{Call}
-use Rattle.send_core.specs.declared.call.Call.TheVariants.{Enqueue, Pace}
+use Rattle.send_core.specs.declared.call.Call.TheVariants.{Enqueue, Pace, Report, Configure}
 use Rattle.send_core.specs.declared.call.Reply.{Reply}
 use Rattle.send_core.specs.declared.call.Reply.TheVariants.{Accepted, Paced, Refused}
 use Rattle.send_core.specs.declared.call.Cause.TheVariants as cause
@@ -42,6 +41,8 @@ enqueued history moment (Ok place) =
 abbrev pub reply_in_time : List Entry → ℕ → Call → Reply
 reply_in_time history moment (Enqueue at class wire) = enqueued history moment (place_of (extension_id history) wire.items)
 reply_in_time history moment (Pace at) = Paced moment (bare (paced MOST_SENDS (standing history)))
+reply_in_time history moment (Report at bytes) = Refused moment (cause.Config 1)
+reply_in_time history moment (Configure at change) = Refused moment (cause.Config 2)
 
 abbrev pub reply : List Entry → Call → Reply
 reply history call =

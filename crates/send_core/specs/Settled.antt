@@ -1,10 +1,24 @@
 -- Replies whose lists promise no room, so that two of them with the same items are the same.
-use Rattle.std.specs.Prelude.{◌≡◌}
+use Rattle.std.specs.Prelude.{◌≡◌, List, []}
+use Rattle.gcc_units.specs.declared.shared_types.Credit.{Credit}
+use Rattle.gcc_units.specs.declared.shared_types.Share.{Share}
 use Rattle.gcc_units.specs.Listed.{bare}
 use Rattle.send_core.specs.declared.call.Reply.{Reply}
-use Rattle.send_core.specs.declared.call.Reply.TheVariants.{Accepted, Paced, Refused}
+use Rattle.send_core.specs.declared.call.Reply.TheVariants.{Accepted, Paced, Credited, Configured, Refused}
 
 abbrev pub IsSettled : Reply → Type 0
 IsSettled (Paced moment records) = records ≡ bare records.items
 IsSettled (Accepted moment index) = Unit {0}
+IsSettled (Credited moment judged signal m acked rates shares) = (judged.received ≡ bare judged.received.items) × (shares ≡ bare shares.items)
+IsSettled (Configured moment rates shares) = shares ≡ bare shares.items
 IsSettled (Refused moment cause) = Unit {0}
+
+-- the credits of a reply, and its shares
+abbrev pub credits_by : Reply → List Credit
+credits_by (Credited moment judged signal m acked rates shares) = judged.received.items
+credits_by reply = []
+
+abbrev pub shares_by : Reply → List Share
+shares_by (Credited moment judged signal m acked rates shares) = shares.items
+shares_by (Configured moment rates shares) = shares.items
+shares_by reply = []

@@ -1,15 +1,14 @@
 -- The parts of a sender stand for its history, and what a call does to each of them.
-use Rattle.std.specs.Prelude.{◌≡◌, ℕ, ◌+◌, ◌*◌, ◌<◌, ◌≤◌, Option, None, Some, List, [], ◌++◌, length, map, min, All, Ok}
-use Rattle.std.specs.Prelude.{IfSome}
+use Rattle.std.specs.Prelude.{◌≡◌, ℕ, ◌+◌, ◌*◌, ◌<◌, ◌≤◌, List, [], ◌++◌, length, min, All, Ok}
 use Rattle.gcc_units.specs.declared.limits.TheConstants.{GREATEST_MOMENT, GREATEST_PACKET, MOST_SENDS, MOST_ENTRIES}
 use Rattle.rtp_wire.specs.Place.{place_of}
-use Rattle.pacer.specs.declared.sent.Sent.{Sent}
 use Rattle.pacer.specs.Pace.{NamesBelow, unsent}
 use Rattle.send_core.specs.declared.call.Call.{Call}
 use Rattle.send_core.specs.declared.call.Reply.{Reply}
 use Rattle.send_core.specs.declared.call.Entry.{Entry}
 use Rattle.send_core.specs.declared.parts.Parts.{Parts}
 use Rattle.send_core.specs.declared.settings.TheConstants.{EXTENSION_ID}
+use Rattle.send_core.specs.Settled.{credits_by, shares_by}
 use Rattle.send_core.specs.History.{AcceptedPacket, later, now, accepted, accepted_by, tickets_from, sent, sent_by, waiting}
 
 -- the packet can be stamped
@@ -42,6 +41,8 @@ pub record Steps (call : Call) (given : Reply) (before after : Parts) : Type 0 w
   pub queue : after.queues ≡ unsent (sent_by given) (before.queues ++ tickets_from before.accepted (accepted_by call given))
   pub few : length (sent_by given) ≤ min MOST_SENDS (length before.queues)
   pub known : All (NamesBelow before.accepted) (sent_by given)
+  pub no_credits : credits_by given ≡ []
+  pub no_shares : shares_by given ≡ []
   pub readable : All IsReadable (accepted_by call given)
 
 -- they stand for a history that may get one more entry

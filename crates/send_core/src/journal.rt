@@ -96,6 +96,8 @@ impl Journal {
         match &entry.call {
             Call::Enqueue { wire, .. } => wire.as_slice(),
             Call::Pace { .. } => unreachable!(),
+            Call::Report { .. } => unreachable!(),
+            Call::Configure { .. } => unreachable!(),
         }
     }
 }

@@ -11,7 +11,7 @@ mod sender;
 mod settings;
 mod stamping;
 
-pub use call::{Answer, ApplyFault, Call, Cause, Entry, Reply};
+pub use call::{Answer, ApplyFault, Call, Cause, Change, Entry, Rates, Reply};
 pub use journal::Journal;
 pub use sender::Sender;
 pub use settings::START_RATE;

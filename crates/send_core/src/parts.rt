@@ -2,7 +2,7 @@
 
 ghost use Rattle.std.specs.Prelude.{◌≡◌, ◌+◌, ◌≤◌, ◌<◌, [], List, length, min};
 
-use crate::call::{Call, Cause, Reply};
+use crate::call::{Call, Cause, Change, Reply};
 use crate::pacing::pace_from;
 use crate::settings::EXTENSION_ID;
 use gcc_units::{Bytes, Class, GREATEST_MOMENT, MOST_SENDS};
@@ -26,12 +26,14 @@ impl Parts {
     ghost use Rattle.send_core.specs.declared.call.Call.TheVariants as call_kind;
     ghost use Rattle.send_core.specs.declared.call.Entry.{Entry};
     ghost use Rattle.send_core.specs.Reply.{reply};
+    ghost use Rattle.send_core.specs.Settled.{IsSettled};
     ghost use Rattle.send_core.specs.Stands.{StandsFor, StandsForShort, Steps};
 
     /// A packet is to be sent.
     fn enqueue(&mut self, at: u64, class: Class, wire: &Bytes) -> Reply
         requires { StandsForShort self.old }
         ensures answer { (history : List Entry) → StandsFor self.old history → result ≡ reply history (call_kind.Enqueue at class wire.now) }
+        ensures settled { IsSettled result }
         ensures steps { Steps (call_kind.Enqueue at class wire.now) result self.old self.new }
     {
         if at > GREATEST_MOMENT {
@@ -75,6 +77,7 @@ impl Parts {
         requires empty { room.items ≡ [] }
         requires room { min MOST_SENDS (length self.old.queues) ≤ room.spare }
         ensures answer { (history : List Entry) → StandsFor self.old history → result ≡ reply history (call_kind.Pace at) }
+        ensures settled { IsSettled result }
         ensures steps { Steps (call_kind.Pace at) result self.old self.new }
     {
         if at > GREATEST_MOMENT {
@@ -94,17 +97,60 @@ impl Parts {
         }
     }
 
+    /// A report came.
+    fn report(&mut self, at: u64, bytes: &Bytes) -> Reply
+        requires { StandsForShort self.old }
+        ensures answer { (history : List Entry) → StandsFor self.old history → result ≡ reply history (call_kind.Report at bytes.now) }
+        ensures settled { IsSettled result }
+        ensures steps { Steps (call_kind.Report at bytes.now) result self.old self.new }
+    {
+        if at > GREATEST_MOMENT {
+            return Reply::Refused {
+                at: self.moment,
+                cause: Cause::MomentTooLarge,
+            };
+        }
+        self.moment = self.moment.max(at);
+        Reply::Refused {
+            at: self.moment,
+            cause: Cause::Config(1),
+        }
+    }
+
+    /// Settings are changed.
+    fn configure(&mut self, at: u64, change: &Change) -> Reply
+        requires { StandsForShort self.old }
+        ensures answer { (history : List Entry) → StandsFor self.old history → result ≡ reply history (call_kind.Configure at change.now) }
+        ensures settled { IsSettled result }
+        ensures steps { Steps (call_kind.Configure at change.now) result self.old self.new }
+    {
+        if at > GREATEST_MOMENT {
+            return Reply::Refused {
+                at: self.moment,
+                cause: Cause::MomentTooLarge,
+            };
+        }
+        self.moment = self.moment.max(at);
+        Reply::Refused {
+            at: self.moment,
+            cause: Cause::Config(2),
+        }
+    }
+
     /// Serves one call; `room` is for the records of a pace.
     pub fn serve(&mut self, call: &Call, room: SentList) -> Reply
         requires stands { StandsForShort self.old }
         requires empty { room.items ≡ [] }
         requires room { min MOST_SENDS (length self.old.queues) ≤ room.spare }
         ensures answer { (history : List Entry) → StandsFor self.old history → result ≡ reply history call.now }
+        ensures settled { IsSettled result }
         ensures steps { Steps call.now result self.old self.new }
     {
         match call {
             Call::Enqueue { at, class, wire } => self.enqueue(*at, *class, wire),
             Call::Pace { at } => self.pace(*at, room),
+            Call::Report { at, bytes } => self.report(*at, bytes),
+            Call::Configure { at, change } => self.configure(*at, change),
         }
     }
 }

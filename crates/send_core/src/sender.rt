@@ -3,7 +3,7 @@
 ghost use Rattle.std.specs.Prelude.{◌≡◌, ℕ, ◌+◌, ◌*◌, ◌<◌, ◌≤◌, ◌↔◌, [], ◌∷◌, ◌++◌, length, min, IfOk, IfErr, OnOk, IsErr};
 
 use crate::call::{Answer, ApplyFault, Call, Entry};
-use crate::copies::{most_sends, rooms, twin};
+use crate::copies::{most_sends, room, twin};
 use crate::journal::Journal;
 use crate::parts::Parts;
 use crate::settings::START_RATE;
@@ -79,7 +79,10 @@ impl Sender {
             return Err((ApplyFault::JournalFull, call));
         }
         let sends = most_sends(&self.parts.queues);
-        let Ok((kept, given)) = rooms(alloc, sends) else {
+        let Ok(kept) = room(alloc, sends, 0, 0) else {
+            return Err((ApplyFault::NoMemory, call));
+        };
+        let Ok(given) = room(alloc, sends, 0, 0) else {
             return Err((ApplyFault::NoMemory, call));
         };
         let Ok(packets) = wire_room(alloc, sends) else {
@@ -88,7 +91,7 @@ impl Sender {
         if self.journal.reserve().is_err() {
             return Err((ApplyFault::NoMemory, call));
         }
-        let reply = self.parts.serve(&call, kept);
+        let reply = self.parts.serve(&call, kept.sent);
         let answer = Answer {
             reply: twin(&reply, given),
             wires: stamp_all(&self.journal, &reply, packets),

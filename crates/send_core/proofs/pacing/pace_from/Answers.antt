@@ -1,10 +1,10 @@
-use Rattle.std.proofs.Common.{◌≡◌, ℕ, ◌+◌, ◌-◌, ◌<◌, ◌≤◌, Option, Some, None, List, [], ◌∷◌, ◌++◌, length, length-append, refl, sym, ◌∙◌, ap, arith}
+use Rattle.std.proofs.Common.{◌≡◌, ◌+◌, ◌-◌, ◌<◌, ◌≤◌, Some, length, length-append, sym, ◌∙◌, ap, arith}
 use Rattle.gcc_units.specs.Listed.{Listed}
 use Rattle.gcc_units.specs.declared.limits.TheConstants.{MOST_SENDS}
 use Rattle.pace_queues.specs.Waiting.{next}
 use Rattle.pacer.specs.declared.sent.Sent.{Sent}
-use Rattle.pacer.specs.Pace.{paced, Standing}
-use Rattle.send_core.proofs.PaceLoop.{IsPacing, IsPacing-first, IsPacing-room, IsPacing-after, IsPacing-stopped, IsPacing-ends}
+use Rattle.pacer.specs.Pace.{paced}
+use Rattle.send_core.proofs.PaceLoop.{IsPacing-first, IsPacing-room, IsPacing-after, IsPacing-stopped, IsPacing-ends}
 use Rattle.send_core.proofs.pacing.pace_from.Goals as goal
 
 pub loop-number-init : goal.loop-number-init

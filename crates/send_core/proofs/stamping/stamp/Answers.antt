@@ -1,9 +1,9 @@
-use Rattle.std.proofs.Common.{◌≡◌, ℕ, ◌+◌, ◌-◌, ◌%◌, ◌≤◌, ◌++◌, [], ◌∷◌, Ok, List, length, sym, ◌∙◌, ap, subst, arith}
+use Rattle.std.proofs.Common.{◌≡◌, ◌-◌, ◌%◌, ◌≤◌, ◌++◌, [], ◌∷◌, length, ◌∙◌, ap, arith}
 use Rattle.gcc_units.specs.declared.limits.TheConstants.{GREATEST_PACKET}
 use Rattle.rtp_wire.specs.Stamp.{stamped}
 use Rattle.rtp_wire.specs.Wires.{Wires}
 use Rattle.send_core.specs.History.{accepted}
-use Rattle.send_core.proofs.Stamped.{CanStamp, can_stamp, small, no_fault, is_stamped}
+use Rattle.send_core.proofs.Stamped.{can_stamp, small, no_fault, is_stamped}
 use Rattle.send_core.proofs.stamping.stamp.Goals as goal
 
 pub push_stamped-requires-clause-bytes : goal.push_stamped-requires-clause-bytes

@@ -1,8 +1,8 @@
-use Rattle.std.proofs.Common.{◌≡◌, ℕ, ◌<◌, List, length, map, slice_get, Some, None, sym, ◌∙◌, ap, subst}
+use Rattle.std.proofs.Common.{◌≡◌, ◌<◌, List, length, map, slice_get, Some, sym, ◌∙◌, ap, subst}
 use Rattle.gcc_units.specs.Listed.{Listed}
 use Rattle.send_core.specs.declared.call.Entry.{Entry}
 use Rattle.send_core.specs.History.{accepted, wire_in}
-use Rattle.send_core.proofs.PlacesFound.{has_place, no_entry, placed, no_pace, enqueued_wire, IsPlaced}
+use Rattle.send_core.proofs.PlacesFound.{has_place, no_entry, placed, no_pace, no_report, no_configure, enqueued_wire}
 use Rattle.send_core.proofs.journal.Journal.packet.Goals as goal
 
 pub unreachable-requires : goal.unreachable-requires
@@ -20,6 +20,18 @@ unreachable-requires-in-Pace c =
     no_pace c.self.inside.entries.items c.args.index c.in-Some-get.entry.now c.in-Pace.at
     (placed c.self.inside.entries.items c.self.inside.places.items c.args.index c.in-Some.place.now c.in-Some-get.entry.now c.self.invariant c.in-Some.ensures c.in-Some-get.ensures)
     c.in-Pace.is
+
+pub unreachable-requires-in-Report : goal.unreachable-requires-in-Report
+unreachable-requires-in-Report c =
+    no_report c.self.inside.entries.items c.args.index c.in-Some-get.entry.now c.in-Report.at c.in-Report.bytes
+    (placed c.self.inside.entries.items c.self.inside.places.items c.args.index c.in-Some.place.now c.in-Some-get.entry.now c.self.invariant c.in-Some.ensures c.in-Some-get.ensures)
+    c.in-Report.is
+
+pub unreachable-requires-in-Configure : goal.unreachable-requires-in-Configure
+unreachable-requires-in-Configure c =
+    no_configure c.self.inside.entries.items c.args.index c.in-Some-get.entry.now c.in-Configure.at c.in-Configure.change
+    (placed c.self.inside.entries.items c.self.inside.places.items c.args.index c.in-Some.place.now c.in-Some-get.entry.now c.self.invariant c.in-Some.ensures c.in-Some-get.ensures)
+    c.in-Configure.is
 
 pub returns : goal.returns
 returns c =

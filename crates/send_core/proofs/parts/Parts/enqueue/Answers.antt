@@ -1,5 +1,5 @@
-use Rattle.std.proofs.Common.{◌≡◌, ℕ, ◌+◌, ◌<◌, ◌≤◌, length, max, Ok, refl, sym, ◌∙◌, ap, subst, arith, All}
-use Rattle.gcc_units.specs.declared.limits.TheConstants.{GREATEST_MOMENT, MOST_ENTRIES}
+use Rattle.std.proofs.Common.{◌≡◌, ◌≤◌, length, Ok, refl, sym, ◌∙◌, subst, arith, All}
+use Rattle.gcc_units.specs.declared.limits.TheConstants.{GREATEST_MOMENT}
 use Rattle.pace_queues.specs.Waiting.{HasIndexBelow}
 use Rattle.rtp_wire.specs.Place.{place_of}
 use Rattle.send_core.specs.declared.settings.TheConstants.{EXTENSION_ID}
@@ -12,14 +12,14 @@ use Rattle.send_core.proofs.parts.Parts.enqueue.Goals as goal
 pub returns-then-at-gt-GREATEST_MOMENT-clause-steps :
     goal.returns-then-at-gt-GREATEST_MOMENT-clause-steps
 returns-then-at-gt-GREATEST_MOMENT-clause-steps c =
-    steps_refused _ _ _ _ refl refl
+    steps_refused _ _ _ _ refl refl refl refl
     (sym (later-late c.args.self.now.moment (call_kind.Enqueue c.args.at c.args.class c.args.wire.now) c.if-at-gt-GREATEST_MOMENT.true))
     c.requires.1.in_time refl refl refl
 
 pub returns-in-Err-clause-steps : goal.returns-in-Err-clause-steps
 returns-in-Err-clause-steps c =
     let early : c.args.at ≤ GREATEST_MOMENT = omega arith in
-    steps_refused _ _ _ _ refl refl
+    steps_refused _ _ _ _ refl refl refl refl
     (c.max-self.ensures ∙ sym (later-in_time c.args.self.now.moment (call_kind.Enqueue c.args.at c.args.class c.args.wire.now) early))
     (omega (arith, c.requires.1.in_time, c.max-self.ensures)) refl refl refl
 
@@ -31,7 +31,7 @@ push-requires c =
 pub returns-in-Err-push-clause-steps : goal.returns-in-Err-push-clause-steps
 returns-in-Err-push-clause-steps c =
     let early : c.args.at ≤ GREATEST_MOMENT = omega arith in
-    steps_refused _ _ _ _ refl refl
+    steps_refused _ _ _ _ refl refl refl refl
     (c.max-self.ensures ∙ sym (later-in_time c.args.self.now.moment (call_kind.Enqueue c.args.at c.args.class c.args.wire.now) early))
     (omega (arith, c.requires.1.in_time, c.max-self.ensures)) refl refl c.in-Err-push.ensures.full
 

@@ -1,4 +1,4 @@
-use Rattle.std.proofs.Common.{◌≡◌, ℕ, ◌+◌, ◌<◌, ◌≤◌, List, length, min, max, refl, sym, ◌∙◌, ap, subst, arith, All}
+use Rattle.std.proofs.Common.{◌≡◌, ◌+◌, ◌≤◌, length, min, refl, sym, ◌∙◌, ap, subst, arith, All}
 use Rattle.gcc_units.specs.Listed.{Listed}
 use Rattle.gcc_units.specs.declared.limits.TheConstants.{GREATEST_MOMENT, MOST_SENDS}
 use Rattle.pace_queues.specs.Waiting.{HasIndexBelow}
@@ -14,7 +14,7 @@ use Rattle.send_core.proofs.parts.Parts.pace.Goals as goal
 pub returns-then-at-gt-GREATEST_MOMENT-clause-steps :
     goal.returns-then-at-gt-GREATEST_MOMENT-clause-steps
 returns-then-at-gt-GREATEST_MOMENT-clause-steps c =
-    steps_refused _ _ _ _ refl refl
+    steps_refused _ _ _ _ refl refl refl refl
     (sym (later-late c.args.self.now.moment (call_kind.Pace c.args.at) c.if-at-gt-GREATEST_MOMENT.true))
     c.requires.stands.1.in_time refl refl refl
 

@@ -1,12 +1,11 @@
-use Rattle.std.proofs.Common.{◌≡◌, ℕ, ◌+◌, ◌<◌, ◌≤◌, List, [], ◌∷◌, ◌++◌, length, refl, sym, ◌∙◌, ap, arith}
+use Rattle.std.proofs.Common.{List, arith}
 use Rattle.send_core.specs.declared.call.Entry.{Entry}
-use Rattle.send_core.specs.History.{entry}
 use Rattle.send_core.proofs.Legality.{IsLegal-push}
 use Rattle.send_core.proofs.Standing.{stands-push}
 use Rattle.send_core.proofs.sender.Sender.apply.Goals as goal
 
-pub twin-requires-clause-room : goal.twin-requires-clause-room
-twin-requires-clause-room c = omega (arith, c.serve-reply.ensures.steps.few, c.in-Ok.ensures.room.1, c.most_sends-sends.ensures)
+pub twin-requires-clause-records : goal.twin-requires-clause-records
+twin-requires-clause-records c = omega (arith, c.serve-reply.ensures.steps.few, c.in-Ok-room.ensures.records, c.most_sends-sends.ensures)
 
 pub invariant_of-self-2 : goal.invariant_of-self-2
 invariant_of-self-2 c =

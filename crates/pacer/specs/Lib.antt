@@ -1,2 +1,6 @@
 pub mod Pace
+pub mod Course
 pub mod Records
+pub mod Force
+pub mod State
+pub mod Inside

@@ -8,7 +8,8 @@ use Rattle.pace_queues.specs.declared.ticket.Ticket.{Ticket}
 use Rattle.pace_queues.specs.Waiting.{next, without, rest, IsLeast, HasIndexBelow}
 use Rattle.pace_queues.specs.Laws.{next-is_least, next-is_one}
 use Rattle.pacer.specs.declared.sent.Sent.{Sent}
-use Rattle.pacer.specs.Pace.{is_index, names, IsBelow, NamesBelow, unsent, record_of, Standing, record_if, rule, after, then_on, paced, paced-zero, paced-suc}
+use Rattle.pacer.specs.declared.sent.Kind.{Kind}
+use Rattle.pacer.specs.Pace.{is_index, names, IsBelow, NamesBelow, unsent, record_of}
 
 -- ---- filters
 
@@ -49,9 +50,9 @@ pub unsent-none : (ts : List Ticket) → unsent [] ts ≡ ts
 unsent-none [] = refl
 unsent-none (t ∷ ts) = rw (unsent-none ts) refl
 
-pub unsent-one : (number : ℕ) (t : Ticket) (ts : List Ticket) → unsent (record_of number t ∷ []) ts ≡ without t.index ts
-unsent-one number t ts =
-    filter-same (λ (u : Ticket). not (names u.index (record_of number t ∷ []))) (λ (u : Ticket). not (u.index == t.index))
+pub unsent-one : (number : ℕ) (k : Kind) (t : Ticket) (ts : List Ticket) → unsent (record_of number k t ∷ []) ts ≡ without t.index ts
+unsent-one number k t ts =
+    filter-same (λ (u : Ticket). not (names u.index (record_of number k t ∷ []))) (λ (u : Ticket). not (u.index == t.index))
     (λ u. ap not (or-false (u.index == t.index))) ts
 
 -- records of earlier packets do not name a later one
@@ -74,60 +75,3 @@ unsent-later count records all (t ∷ ts) late =
       unsent-later count records all ts (All-tail (λ (u : Ticket). count ≤ u.index) t ts late),
     ) refl
 
--- ---- one pace
-
--- a filter keeps no more than there is, and less where one fails
-filter-fewer : {X : Type 0} (p : X → Bool) (xs : List X) → length (filter p xs) ≤ length xs
-filter-fewer p [] = omega arith
-filter-fewer {X} p (x ∷ xs) = step (p x) refl (filter-fewer p xs)
-  where
-    step : (b : Bool) → p x ≡ b → length (filter p xs) ≤ length xs → length (filter p (x ∷ xs)) ≤ length (x ∷ xs)
-    step true e h = rw e (omega arith)
-    step false e h = rw e (omega arith)
-
-filter-less : {X : Type 0} (p : X → Bool) (x : X) (xs : List X) → Contains xs x → p x ≡ false → length (filter p xs) < length xs
-filter-less p x [] (k, l, is) fails = absurd (omega arith)
-filter-less p x (y ∷ ys) (zero, l, is) fails =
-    let h : length (filter p ys) ≤ length ys = filter-fewer p ys in
-    let same : y ≡ x = is in
-    rw (same, fails) (omega arith)
-filter-less {X} p x (y ∷ ys) (suc k, l, is) fails =
-    let deeper : Contains ys x = (k, omega arith, is) in
-    step (p y) refl (filter-less p x ys deeper fails)
-  where
-    step : (b : Bool) → p y ≡ b → length (filter p ys) < length ys → length (filter p (y ∷ ys)) < length (y ∷ ys)
-    step true e h = rw e (omega arith)
-    step false e h = rw e (omega arith)
-
--- a packet that waits is less after it was sent
-unsent-fewer : (number : ℕ) (t : Ticket) (ts : List Ticket) → Contains ts t → length (unsent (record_of number t ∷ []) ts) < length ts
-unsent-fewer number t ts has =
-    let named : not (t.index == t.index || false) ≡ false = grind (arith, nat_tests) in
-    filter-less (λ (u : Ticket). not (names u.index (record_of number t ∷ []))) t ts has named
-
-pub paced-few : (most : ℕ) (s : Standing) → length (paced most s) ≤ min most (length s.waiting)
-paced-few zero s = rw (paced-zero s) (omega arith)
-paced-few (suc most) s = rw (paced-suc most s) (by_next (λ left. paced-few most left) (next s.waiting) refl (next-is_least s.waiting))
-  where
-    by_next : ((left : Standing) → length (paced most left) ≤ min most (length left.waiting)) → (o : Option Ticket) → next s.waiting ≡ o → IfSome o (λ t. IsLeast t s.waiting)
-        → length (then_on (record_if s.number o) (λ r. paced most (after s r))) ≤ min (suc most) (length s.waiting)
-    by_next few None e h = omega arith
-    by_next few (Some t) e h =
-        let left : Standing = after s (record_of s.number t) in
-        let more : length (paced most left) ≤ min most (length left.waiting) = few left in
-        let less : length left.waiting < length s.waiting = unsent-fewer s.number t s.waiting h.waits in
-        omega arith
-
--- each is of a packet that waits
-pub paced-known : (most count : ℕ) (s : Standing) → All (HasIndexBelow count) s.waiting → All (NamesBelow count) (paced most s)
-paced-known zero count s all = rw (paced-zero s) (All-nil (NamesBelow count))
-paced-known (suc most) count s all =
-    rw (paced-suc most s) (by_next (λ left below. paced-known most count left below) (next s.waiting) (next-is_one (HasIndexBelow count) s.waiting all))
-  where
-    by_next : ((left : Standing) → All (HasIndexBelow count) left.waiting → All (NamesBelow count) (paced most left)) → (o : Option Ticket) → IfSome o (HasIndexBelow count)
-        → All (NamesBelow count) (then_on (record_if s.number o) (λ r. paced most (after s r)))
-    by_next known None h = All-nil (NamesBelow count)
-    by_next known (Some t) h =
-        All-cons (NamesBelow count) (record_of s.number t) (paced most (after s (record_of s.number t))) h
-        (known (after s (record_of s.number t))
-        (All-filter (λ (u : Ticket). not (names u.index (record_of s.number t ∷ []))) (HasIndexBelow count) s.waiting all))

@@ -1,11 +1,11 @@
 -- What a history says of moments and packets. A history is the list of its entries, the oldest first.
-use Rattle.std.specs.Prelude.{ℕ, ◌+◌, nat_lt, max, if◌then◌else◌, List, [], ◌∷◌, length, fold}
-use Rattle.std.specs.List.{flat_map}
+use Rattle.std.specs.Prelude.{ℕ, Bool, ◌+◌, nat_lt, max, if◌then◌else◌, List, [], ◌∷◌, length, fold}
+use Rattle.std.specs.List.{flat_map, list_any}
 use Rattle.gcc_units.specs.declared.class.Class.{Class}
 use Rattle.gcc_units.specs.declared.limits.TheConstants.{GREATEST_MOMENT}
 use Rattle.pace_queues.specs.declared.ticket.Ticket.{Ticket}
 use Rattle.pacer.specs.declared.sent.Sent.{Sent}
-use Rattle.pacer.specs.Pace.{unsent}
+use Rattle.pacer.specs.Pace.{unsent, is_media}
 use Rattle.send_core.specs.declared.call.Call.{Call}
 use Rattle.send_core.specs.declared.call.Call.TheVariants.{Enqueue, Pace, Report, Configure}
 use Rattle.send_core.specs.declared.call.Reply.{Reply}
@@ -77,3 +77,11 @@ sent history = flat_map (λ (e : Entry). sent_by e.reply) history
 -- the accepted packets that no record is of
 abbrev pub waiting : List Entry → List Ticket
 waiting history = unsent (sent history) (tickets history)
+
+-- whether media within the budget was sent
+abbrev pub began : List Entry → Bool
+began history = list_any (λ (r : Sent). is_media r.kind) (sent history)
+
+-- whether a packet was accepted or sent
+abbrev pub has_packets : List Entry → Bool
+has_packets history = nat_lt 0 (length (accepted history) + length (sent history))

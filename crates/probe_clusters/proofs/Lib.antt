@@ -1,0 +1,4 @@
+pub mod Places
+pub mod Pushes
+pub mod Taking
+pub mod Bounds

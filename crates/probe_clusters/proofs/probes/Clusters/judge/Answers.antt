@@ -1,0 +1,46 @@
+use Rattle.std.proofs.Common.{◌≡◌, ℕ, ◌+◌, ◌<◌, ◌≤◌, List, [], ◌∷◌, ◌++◌, length, position, slice_get, slice_set, Option, Some, None, IfSome, refl, sym, ap, subst, ◌∙◌, rules, arith}
+use Rattle.gcc_units.specs.Listed.{Listed}
+use Rattle.probe_clusters.specs.declared.cluster.Cluster.{Cluster}
+use Rattle.probe_clusters.specs.declared.probes.Outcome.{Outcome}
+use Rattle.probe_clusters.specs.Cluster.{planned, waits, is_ready, with_packet, with_credit, with_result_taken}
+use Rattle.probe_clusters.specs.Clusters.{changed, changed_where, current, due, sent, noted, outcome, outcomes, ready, after_ready, after_outcomes}
+use Rattle.probe_clusters.specs.Deeds.{Deed, Plan, Send, Note, Take, StandsFor, IsWithin, send}
+use Rattle.probe_clusters.proofs.Places.{IsFirst, first_found, place_of, found, written, due-current}
+use Rattle.probe_clusters.proofs.Pushes.{stands-sent, stands-noted, stands-unnoted, stands-taken, stands-planned}
+use Rattle.probe_clusters.proofs.Taking.{Took, took, NoneLeft, none_left}
+use Rattle.probe_clusters.proofs.Bounds.{small-at}
+use Rattle.probe_clusters.proofs.probes.Clusters.judge.Goals as goal
+
+pub returns-in_default-clause-stands : goal.returns-in_default-clause-stands
+returns-in_default-clause-stands c = λ ds h. stands-unnoted c.args.self.now.items ds c.args.credit.now (search rules) h
+
+pub with_credit-requires-clause-small : goal.with_credit-requires-clause-small
+with_credit-requires-clause-small c =
+    let items = c.args.self.now.items in
+    let id = c.in-Some.id in
+    let same : c.self.inside.held.items ≡ items = ap (λ (v : Listed Cluster). v.items) c.self.view_is in
+    let P : Option ℕ → Type 0 = λ o. IfSome o (λ k. k < length items) in
+    let below : id < length items = subst P c.in-Some.is c.requires.named in
+    small-at items c.requires.within.0 id c.index.result.now c.requires.within.1 c.requires.within.2
+    (found c.self.inside.held.items items id c.index.result.now same below c.index.ensures)
+
+pub returns-clause-items : goal.returns-clause-items
+returns-clause-items c =
+    let items = c.args.self.now.items in
+    let id = c.in-Some.id in
+    let same : c.self.inside.held.items ≡ items = ap (λ (v : Listed Cluster). v.items) c.self.view_is in
+    let P : Option ℕ → Type 0 = λ o. IfSome o (λ k. k < length items) in
+    let below : id < length items = subst P c.in-Some.is c.requires.named in
+    written (with_credit c.args.credit.now) c.self.inside.held.items items id c.index.result.now c.with_credit.result same below c.index.ensures c.with_credit.ensures
+    ∙ ap (λ (o : Option ℕ). changed_where (with_credit c.args.credit.now) o items) (sym c.in-Some.is)
+
+pub returns-clause-stands : goal.returns-clause-stands
+returns-clause-stands c = λ ds h.
+    let items = c.args.self.now.items in
+    let id = c.in-Some.id in
+    let same : c.self.inside.held.items ≡ items = ap (λ (v : Listed Cluster). v.items) c.self.view_is in
+    let P : Option ℕ → Type 0 = λ o. IfSome o (λ k. k < length items) in
+    let below : id < length items = subst P c.in-Some.is c.requires.named in
+    let new = written (with_credit c.args.credit.now) c.self.inside.held.items items id c.index.result.now c.with_credit.result same below c.index.ensures c.with_credit.ensures in
+    let P : List Cluster → Type 0 = λ cs. StandsFor cs (ds ++ Note c.args.credit.now ∷ []) in
+    subst P (sym new) (stands-noted items ds c.args.credit.now id c.in-Some.is below h)

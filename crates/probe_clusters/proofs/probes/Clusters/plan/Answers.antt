@@ -1,0 +1,18 @@
+use Rattle.std.proofs.Common.{◌≡◌, ℕ, ◌+◌, ◌<◌, ◌≤◌, List, [], ◌∷◌, ◌++◌, length, position, slice_get, slice_set, Option, Some, None, IfSome, refl, sym, ap, subst, ◌∙◌, rules, arith}
+use Rattle.gcc_units.specs.Listed.{Listed}
+use Rattle.probe_clusters.specs.declared.cluster.Cluster.{Cluster}
+use Rattle.probe_clusters.specs.declared.probes.Outcome.{Outcome}
+use Rattle.probe_clusters.specs.Cluster.{planned, waits, is_ready, with_packet, with_credit, with_result_taken}
+use Rattle.probe_clusters.specs.Clusters.{changed, changed_where, current, due, sent, noted, outcome, outcomes, ready, after_ready, after_outcomes}
+use Rattle.probe_clusters.specs.Deeds.{Deed, Plan, Send, Note, Take, StandsFor, IsWithin, send}
+use Rattle.probe_clusters.proofs.Places.{IsFirst, first_found, place_of, found, written, due-current}
+use Rattle.probe_clusters.proofs.Pushes.{stands-sent, stands-noted, stands-unnoted, stands-taken, stands-planned}
+use Rattle.probe_clusters.proofs.Taking.{Took, took, NoneLeft, none_left}
+use Rattle.probe_clusters.proofs.Bounds.{small-at}
+use Rattle.probe_clusters.proofs.probes.Clusters.plan.Goals as goal
+
+pub returns-in-Ok-clause-stands : goal.returns-in-Ok-clause-stands
+returns-in-Ok-clause-stands c = λ ds h.
+    let P : List Cluster → Type 0 = λ cs. StandsFor cs (ds ++ Plan c.args.rate ∷ []) in
+    let new : c.add.new.self.items ≡ c.args.self.now.items ++ planned c.args.rate ∷ [] = search rules in
+    subst P (sym new) (stands-planned c.args.self.now.items ds c.args.rate h)

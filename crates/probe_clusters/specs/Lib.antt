@@ -1,0 +1,4 @@
+pub mod Heard
+pub mod Cluster
+pub mod Clusters
+pub mod Deeds

@@ -1,0 +1,231 @@
+ghost use Rattle.std.specs.Prelude.{◌≡◌, ◌↔◌, ◌<◌, ◌≤◌, ◌+◌, List, [], ◌∷◌, ◌++◌, length, count_by, position, IsNone, IsSome, IfSome, IfNone, IfErr, IfOk, OnOk, OnErr, IsErr};
+ghost use Rattle.gcc_units.specs.Listed.{bare};
+ghost use Rattle.gcc_units.specs.Rates.{IsRate};
+ghost use Rattle.probe_clusters.specs.declared.cluster.Cluster.{Cluster};
+ghost use Rattle.probe_clusters.specs.Cluster.{planned, waits, is_ready};
+ghost use Rattle.probe_clusters.specs.Clusters.{due, sent, noted, ready, after_ready, outcomes, after_outcomes, listed};
+ghost use Rattle.probe_clusters.specs.Deeds.{Deed, Plan, Note, StandsFor, IsWithin, send, takings};
+
+use crate::cluster::Cluster;
+use gcc_units::{Credit, GREATEST_PACKET, MOST_CLUSTERS, Moment, NoMemory, Rate};
+use std::alloc::Global;
+use std::marker::Model;
+
+/// Why a cluster was not planned.
+#[derive(Clone, Copy, PartialEq, Eq, Debug)]
+pub enum PlanFault {
+    /// `MOST_CLUSTERS` clusters wait already.
+    TooMany,
+    /// Memory ran out.
+    NoMemory,
+}
+
+/// The result of a cluster.
+#[derive(Clone, Copy, PartialEq, Eq, Debug)]
+pub struct Outcome {
+    pub id: u32,
+    /// The rate of the path that its credits show, in bit/s; none where they show none.
+    pub result: Option<Rate>,
+}
+
+/// The probe clusters of a sender. Contracts see them in the order of their ids, with a spare number:
+/// so many more can be planned before memory is asked for.
+#[derive(Drop)]
+pub struct Clusters {
+    held: Vec<Cluster>,
+    room: u32,
+}
+
+impl Model for Clusters {
+    ghost use Rattle.std.specs.Prelude.{◌+◌, ◌^◌, ◌≤◌, ◌<◌};
+    ghost use Rattle.std.specs.Vec.{vec_len, vec_capacity};
+    ghost use Rattle.gcc_units.specs.Listed.{Listed};
+    ghost use Rattle.probe_clusters.specs.declared.cluster.Cluster.{Cluster};
+
+    ghost Value = { Listed Cluster };
+
+    ghost view = { λ s. record { items = s.held.items; spare = s.room } };
+
+    ghost invariant = { λ s. (vec_len s.held + s.room ≤ vec_capacity s.held) × (vec_len s.held + s.room < 2 ^ 32) };
+}
+
+impl Clusters {
+    /// No cluster. It takes no memory.
+    pub fn new(alloc: Global) -> Clusters
+        ensures empty { result ≡ bare [] }
+        ensures stands { StandsFor result.items [] }
+    {
+        Clusters {
+            held: Vec::new(alloc),
+            room: 0,
+        }
+    }
+
+    /// Plans a cluster of a rate in bit/s, and answers its id: the count of those before it.
+    /// `TooMany` comes exactly where `MOST_CLUSTERS` clusters wait, and `NoMemory` where memory runs
+    /// out, but never with spare room. At either the clusters are as before.
+    pub fn plan(&mut self, rate: Rate) -> Result<u32, PlanFault>
+        requires { IsRate rate }
+        ensures id { IfOk result (λ id. id ≡ length self.old.items) }
+        ensures items { OnOk result (self.new.items ≡ self.old.items ++ planned rate ∷ []) }
+        ensures stands { (ds : List Deed) → StandsFor self.old.items ds → OnOk result (StandsFor self.new.items (ds ++ Plan rate ∷ [])) }
+        ensures spare { OnOk result (self.old.spare ≤ self.new.spare + 1) }
+        ensures err { OnErr result (self.new ≡ self.old) }
+
+        // Too many, exactly where the most wait; no other fault with spare room.
+        ensures many { IfErr result (λ e. (e ≡ PlanFault.TooMany) ↔ (MOST_CLUSTERS ≤ count_by waits self.old.items)) }
+        ensures few { OnOk result (count_by waits self.old.items < MOST_CLUSTERS) }
+        ensures room { 0 < self.old.spare → IfErr result (λ e. e ≡ PlanFault.TooMany) }
+    {
+        if self.waiting() >= MOST_CLUSTERS {
+            return Err(PlanFault::TooMany);
+        }
+        let id = self.held.len() as u32;
+        match self.add(Cluster::planned(rate)) {
+            Ok(()) => Ok(id),
+            Err(NoMemory) => Err(PlanFault::NoMemory),
+        }
+    }
+
+    /// Makes the spare number at least `n`. At `NoMemory` the clusters are as before.
+    pub fn reserve(&mut self, n: u32) -> Result<(), NoMemory>
+        ensures items { self.new.items ≡ self.old.items }
+        ensures room { OnOk result (n ≤ self.new.spare) }
+        ensures grows { self.old.spare ≤ self.new.spare }
+        ensures err { OnErr result (self.new ≡ self.old) }
+    {
+        if n <= self.room {
+            return Ok(());
+        }
+        if n > u32::MAX - self.held.len() as u32 {
+            return Err(NoMemory);
+        }
+        self.held.reserve(n as usize)?;
+        self.room = n;
+        Ok(())
+    }
+
+    /// How many clusters wait: too few packets were sent for them, or too few bytes for their rate.
+    pub fn waiting(&self) -> u32
+        ensures { result ≡ count_by waits self.now.items }
+    {
+        count_waiting(self.held.as_slice()) as u32
+    }
+
+    /// The id of the current cluster, the waiting one with the least id, where it is due: nothing was
+    /// sent for it yet, or its bytes are not ahead of its rate. `None` exactly where no cluster waits
+    /// or the current one is not due.
+    pub fn due(&self, now: Moment) -> Option<u32>
+        ensures value { result ≡ due self.now.items now }
+        ensures bound { IfSome result (λ id. id < length self.now.items) }
+    {
+        let id = current(self.held.as_slice())?;
+        if self.held[id].is_due(now) {
+            Some(id as u32)
+        } else {
+            None
+        }
+    }
+
+    /// Counts one packet for the current cluster, which has to be due.
+    pub fn sent(&mut self, size: u32, now: Moment)
+        requires due { IsSome (due self.old.items now) }
+        requires size { size ≤ GREATEST_PACKET }
+        requires within { (ds : List Deed) × StandsFor self.old.items ds × IsWithin ds }
+        ensures items { self.new.items ≡ sent size now self.old.items }
+        ensures spare { self.new.spare ≡ self.old.spare }
+        ensures stands { (ds : List Deed) → StandsFor self.old.items ds
+            → StandsFor self.new.items (ds ++ send (due self.old.items now) size now) }
+    {
+        let Some(id) = current(self.held.as_slice()) else {
+            unreachable!()
+        };
+        self.held[id] = self.held[id].with_packet(size, now);
+    }
+
+    /// Counts the credit of a cluster's packet. A credit that names no cluster changes nothing, nor
+    /// does one that comes after the cluster's result was taken.
+    pub fn judge(&mut self, credit: &Credit)
+        requires named { IfSome credit.now.cluster (λ id. id < length self.old.items) }
+        requires size { credit.now.size ≤ GREATEST_PACKET }
+        requires within { (ds : List Deed) × StandsFor self.old.items ds × IsWithin ds }
+        ensures items { self.new.items ≡ noted credit.now self.old.items }
+        ensures spare { self.new.spare ≡ self.old.spare }
+        ensures stands { (ds : List Deed) → StandsFor self.old.items ds → StandsFor self.new.items (ds ++ Note credit.now ∷ []) }
+    {
+        let Some(id) = credit.cluster else {
+            return;
+        };
+        let id = id as usize;
+        self.held[id] = self.held[id].with_credit(credit);
+    }
+
+    /// Takes the result of the least cluster that has one and gave none yet: it no longer waits, and
+    /// enough of its packets and of its bytes were credited. `None` exactly where there is no such
+    /// cluster.
+    pub fn ready(&mut self) -> Option<Outcome>
+        ensures value { result ≡ ready self.old.items }
+        ensures items { self.new.items ≡ after_ready self.old.items }
+        ensures spare { self.new.spare ≡ self.old.spare }
+        ensures stands { (ds : List Deed) → StandsFor self.old.items ds
+            → StandsFor self.new.items (ds ++ takings (listed result)) }
+
+        // For a loop that takes all of them: it is the first of the outcomes, and the others are left.
+        ensures first { outcomes self.old.items ≡ listed result ++ outcomes self.new.items }
+        ensures fewer { IsSome result → length (outcomes self.new.items) < length (outcomes self.old.items) }
+        ensures end { after_outcomes self.new.items ≡ after_outcomes self.old.items }
+        ensures none { IsNone result ↔ (outcomes self.old.items ≡ []) }
+        ensures all_taken { IfNone result (after_outcomes self.old.items ≡ self.old.items) }
+    {
+        let Some(id) = first_ready(self.held.as_slice()) else {
+            return None;
+        };
+        let cluster = self.held[id];
+        self.held[id] = cluster.with_result_taken();
+        Some(Outcome {
+            id: id as u32,
+            result: cluster.result(),
+        })
+    }
+
+    // Puts a cluster at the end. With spare room it is never refused; at `NoMemory` nothing changes.
+    fn add(&mut self, cluster: Cluster) -> Result<(), NoMemory>
+        ensures items { OnOk result (self.new.items ≡ self.old.items ++ cluster ∷ []) }
+        ensures spare { OnOk result (self.old.spare ≤ self.new.spare + 1) }
+        ensures err { OnErr result (self.new ≡ self.old) }
+        ensures room { 0 < self.old.spare → OnErr result ⊥ }
+    {
+        if self.room > 0 {
+            self.held.push_reserved(cluster);
+            self.room -= 1;
+            return Ok(());
+        }
+        if self.held.len() >= u32::MAX as usize {
+            return Err(NoMemory);
+        }
+        match self.held.push(cluster) {
+            Ok(()) => Ok(()),
+            Err(_) => Err(NoMemory),
+        }
+    }
+}
+
+fn count_waiting(clusters: &[Cluster]) -> usize
+    ensures { result ≡ count_by waits clusters.now }
+{
+    clusters.iter().filter(|c| c.waits()).count()
+}
+
+// The waiting cluster with the least id.
+fn current(clusters: &[Cluster]) -> Option<usize>
+    ensures { result ≡ position waits clusters.now }
+{
+    clusters.iter().position(|c| c.waits())
+}
+
+// The cluster with the least id that has a result and gave none.
+fn first_ready(clusters: &[Cluster]) -> Option<usize>
+    ensures { result ≡ position is_ready clusters.now }
+{
+    clusters.iter().position(|c| c.is_ready())
+}

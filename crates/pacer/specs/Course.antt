@@ -1,5 +1,5 @@
 -- What a pace works on, and what it asks of it.
-use Rattle.std.specs.Prelude.{◌≡◌, ℕ, ℤ, pos, neg_ℤ, ◌+◌, ◌≤◌, ◌≤ℤ◌, List, [], ◌∷◌, All, count_by}
+use Rattle.std.specs.Prelude.{ℕ, pos, neg_ℤ, ◌+◌, ◌≤◌, ◌≤ℤ◌, List, [], ◌∷◌, All, count_by}
 use Rattle.std.specs.List.{flat_map}
 use Rattle.gcc_units.specs.declared.limits.TheConstants.{GREATEST_PACKET, MOST_PACKETS}
 use Rattle.pace_budget.specs.Level.{full}

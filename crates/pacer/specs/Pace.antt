@@ -1,5 +1,5 @@
 -- One pace: which packets are sent, in which order, under which numbers.
-use Rattle.std.specs.Prelude.{◌≡◌, ℕ, ℤ, pos, neg_ℤ, suc, zero, ◌+◌, ◌*◌, ◌-ℤ◌, ◌<◌, ◌==◌, ◌&&◌, ◌||◌, Bool, true, false, not, Option, None, Some, List, [], ◌∷◌, filter, fold, int_lt, if◌then◌else◌, refl}
+use Rattle.std.specs.Prelude.{◌≡◌, ℕ, ℤ, pos, suc, zero, ◌+◌, ◌-ℤ◌, ◌<◌, ◌==◌, ◌&&◌, ◌||◌, Bool, true, false, not, Option, None, Some, List, [], ◌∷◌, filter, fold, int_lt, if◌then◌else◌, refl}
 use Rattle.std.specs.Int.{int_min, int_max}
 use Rattle.std.specs.List.{list_any}
 use Rattle.gcc_units.specs.declared.class.Class.{Class}
@@ -100,6 +100,11 @@ record_of number sent_as t = record { number = number; index = Some t.index; kin
 
 abbrev pub padding_of : ℕ → Kind → Sent
 padding_of number sent_as = record { number = number; index = None; kind = sent_as; size = PADDING_PACKET }
+
+-- the index of a packet, where there is one
+abbrev pub index_of : Option Ticket → Option ℕ
+index_of None = None
+index_of (Some t) = Some t.index
 
 -- the next waiting packet, or a padding packet where nothing waits
 abbrev pub packet_of : ℕ → Kind → Option Ticket → Sent

@@ -1,15 +1,12 @@
 -- What follows of the words of `Pace`: what records leave unsent, and what one pace sends.
-use Rattle.std.proofs.Common.{◌≡◌, ℕ, suc, zero, ◌+◌, ◌-◌, ◌<◌, ◌≤◌, ◌==◌, ◌||◌, ◌&&◌, Bool, true, false, not, min, Option, None, Some, IfSome, List, [], ◌∷◌, ◌++◌, length, All, Contains, filter, refl, sym, ◌∙◌, ap, subst, arith, get_or}
-use Rattle.std.specs.List.{list_any}
+use Rattle.std.proofs.Common.{◌≡◌, ℕ, ◌≤◌, ◌==◌, ◌||◌, ◌&&◌, Bool, true, false, not, Option, None, Some, List, [], ◌∷◌, ◌++◌, All, filter, refl, ◌∙◌, ap, arith}
 use Rattle.std.proofs.lemmas.Bool.Decides.{nat_tests}
-use Rattle.std.proofs.lemmas.List.Elements.{All-nil, All-cons, All-head, All-tail, All-append, All-contains, All-filter, filter-append}
+use Rattle.std.proofs.lemmas.List.Elements.{All-head, All-tail, filter-append}
 use Rattle.std.proofs.lemmas.List.Folds.{list_any-append}
 use Rattle.pace_queues.specs.declared.ticket.Ticket.{Ticket}
-use Rattle.pace_queues.specs.Waiting.{next, without, rest, IsLeast, HasIndexBelow}
-use Rattle.pace_queues.specs.Laws.{next-is_least, next-is_one}
+use Rattle.pace_queues.specs.Waiting.{without}
 use Rattle.pacer.specs.declared.sent.Sent.{Sent}
-use Rattle.pacer.specs.declared.sent.Kind.{Kind}
-use Rattle.pacer.specs.Pace.{is_index, names, IsBelow, NamesBelow, unsent, record_of}
+use Rattle.pacer.specs.Pace.{is_index, names, IsBelow, NamesBelow, unsent}
 
 -- ---- filters
 
@@ -50,10 +47,18 @@ pub unsent-none : (ts : List Ticket) → unsent [] ts ≡ ts
 unsent-none [] = refl
 unsent-none (t ∷ ts) = rw (unsent-none ts) refl
 
-pub unsent-one : (number : ℕ) (k : Kind) (t : Ticket) (ts : List Ticket) → unsent (record_of number k t ∷ []) ts ≡ without t.index ts
-unsent-one number k t ts =
-    filter-same (λ (u : Ticket). not (names u.index (record_of number k t ∷ []))) (λ (u : Ticket). not (u.index == t.index))
-    (λ u. ap not (or-false (u.index == t.index))) ts
+-- a record of a packet leaves all but that packet unsent
+pub unsent-one : (r : Sent) (k : ℕ) → r.index ≡ Some k → (ts : List Ticket) → unsent (r ∷ []) ts ≡ without k ts
+unsent-one r k is ts =
+    filter-same (λ (u : Ticket). not (names u.index (r ∷ []))) (λ (u : Ticket). not (u.index == k))
+    (λ u. ap not (or-false (is_index u.index r.index) ∙ ap (is_index u.index) is)) ts
+
+-- a record of no packet leaves all unsent
+pub unsent-no_index : (r : Sent) → r.index ≡ None → (ts : List Ticket) → unsent (r ∷ []) ts ≡ ts
+unsent-no_index r is [] = refl
+unsent-no_index r is (t ∷ ts) =
+    let named : names t.index (r ∷ []) ≡ false = or-false (is_index t.index r.index) ∙ ap (is_index t.index) is in
+    rw (named, unsent-no_index r is ts) refl
 
 -- records of earlier packets do not name a later one
 pub names-none : (count k : ℕ) (records : List Sent) → All (NamesBelow count) records → count ≤ k → names k records ≡ false
@@ -74,4 +79,3 @@ unsent-later count records all (t ∷ ts) late =
       names-none count t.index records all (All-head (λ (u : Ticket). count ≤ u.index) t ts late),
       unsent-later count records all ts (All-tail (λ (u : Ticket). count ≤ u.index) t ts late),
     ) refl
-

@@ -1,16 +1,15 @@
 -- What a pacer stands at, and what each call makes of it.
-use Rattle.std.specs.Prelude.{◌≡◌, ℕ, ℤ, pos, neg_ℤ, ◌+◌, ◌-◌, ◌*◌, ◌≤◌, Bool, false, List, [], ◌∷◌, ◌++◌, All, fold}
+use Rattle.std.specs.Prelude.{ℕ, ℤ, pos, neg_ℤ, ◌-◌, ◌*◌, ◌≤◌, Bool, false, List, [], ◌∷◌, ◌++◌, All}
 use Rattle.gcc_units.specs.declared.limits.TheConstants.{GREATEST_RATE, GREATEST_MOMENT, GREATEST_PACKET}
 use Rattle.pace_budget.specs.declared.bucket.TheConstants.{GREATEST_WINDOW}
-use Rattle.pace_budget.specs.Level.{Deed, Advance}
+use Rattle.pace_budget.specs.Level.{Advance}
 use Rattle.pace_budget.specs.Steps.{step}
 use Rattle.pace_queues.specs.declared.ticket.Ticket.{Ticket}
 use Rattle.probe_clusters.specs.declared.cluster.Cluster.{Cluster}
-use Rattle.pacer.specs.declared.sent.Sent.{Sent}
 use Rattle.pacer.specs.declared.pacing.Pacing.{Pacing}
 use Rattle.pacer.specs.declared.pacing.Tally.{Tally}
 use Rattle.pacer.specs.declared.pacing.TheConstants.{START_PACING, START_WINDOW}
-use Rattle.pacer.specs.Pace.{Standing, after_all}
+use Rattle.pacer.specs.Pace.{Standing}
 use Rattle.pacer.specs.declared.course.Terms.{Terms}
 use Rattle.pacer.specs.Force.{in_force}
 

@@ -1,9 +1,9 @@
 //! The course of one pace: the first rule that applies, and what a send does.
 
-ghost use Rattle.std.specs.Prelude.{◌≡◌, ℕ, pos, neg_ℤ, ◌+◌, ◌*◌, ◌≤◌, ◌<◌, ◌≤ℤ◌, ◌++◌, List, length, count_by, Some, IfSome, IsNone, All};
-ghost use Rattle.pace_budget.specs.Level.{full};
-ghost use Rattle.probe_clusters.specs.Deeds.{Deed, StandsFor, IsWithin, is_send};
-ghost use Rattle.pacer.specs.Pace.{Standing, rule, after, after_all, paced, audio_rule, probe_rule, media_rule, padding_rule, is_audio, record_of, packet_of, padding_of};
+ghost use Rattle.std.specs.Prelude.{◌≡◌, ◌+◌, ◌≤◌, ◌<◌, ◌^◌, ◌++◌, [], ◌∷◌, List, length, Some};
+ghost use Rattle.pace_queues.specs.Waiting.{next};
+ghost use Rattle.probe_clusters.specs.Deeds.{Deed, StandsFor};
+ghost use Rattle.pacer.specs.Pace.{rule, after, after_all, paced, is_audio, record_of, padding_of, index_of, unsent};
 ghost use Rattle.pacer.specs.Course.{standing, IsFit, HasRoom, probes_of, probe_by};
 
 use crate::sent::{Kind, Sent, SentList};
@@ -93,6 +93,16 @@ fn choose(course: &Course, clusters: &Clusters, number: u64, terms: Terms) -> Op
     }
 }
 
+// The packet of the send waits no more.
+fn take_out(queues: &mut Queues, sent: Sent)
+    requires { sent.index ≡ index_of (next queues.old) }
+    ensures { queues.new ≡ unsent (sent ∷ []) queues.old }
+{
+    if sent.index.is_some() {
+        queues.pop();
+    }
+}
+
 // What a send does to what waits, to the levels and to the clusters.
 fn carry_out(course: &mut Course, clusters: &mut Clusters, number: u64, terms: Terms, sent: Sent)
     requires ruled { rule terms (standing course.old clusters.old.items number) ≡ Some sent }
@@ -103,9 +113,7 @@ fn carry_out(course: &mut Course, clusters: &mut Clusters, number: u64, terms: T
     ensures spare { clusters.new.spare ≡ clusters.old.spare }
     ensures stands { (ds : List Deed) → StandsFor clusters.old.items ds → StandsFor clusters.new.items (ds ++ probe_by terms.moment sent) }
 {
-    if sent.index.is_some() {
-        course.queues.pop();
-    }
+    take_out(&mut course.queues, sent);
     match sent.kind {
         Kind::Audio => {}
         Kind::Media => {
@@ -119,15 +127,22 @@ fn carry_out(course: &mut Course, clusters: &mut Clusters, number: u64, terms: T
 }
 
 /// Sends what the rules give, numbered from `first`.
-pub fn run(course: &mut Course, clusters: &mut Clusters, first: u64, terms: Terms, out: &mut SentList)
+pub fn run(
+    course: &mut Course,
+    clusters: &mut Clusters,
+    first: u64,
+    terms: Terms,
+    out: &mut SentList,
+)
     requires fit { IsFit terms course.old }
-    requires within { HasRoom MOST_SENDS clusters.old.items }
+    requires clusters { HasRoom MOST_SENDS clusters.old.items }
     requires empty { out.old.items ≡ [] }
     requires room { MOST_SENDS ≤ out.old.spare }
     requires fits { first + MOST_SENDS < 2 ^ 64 }
     ensures records { out.new.items ≡ paced MOST_SENDS terms (standing course.old clusters.old.items first) }
     ensures after { standing course.new clusters.new.items (first + length out.new.items)
         ≡ after_all terms (standing course.old clusters.old.items first) out.new.items }
+    ensures queue { course.new.queues ≡ unsent out.new.items course.old.queues }
     ensures spare { clusters.new.spare ≡ clusters.old.spare }
     ensures stands { (ds : List Deed) → StandsFor clusters.old.items ds → StandsFor clusters.new.items (ds ++ probes_of terms.moment out.new.items) }
 {

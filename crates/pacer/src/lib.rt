@@ -10,7 +10,5 @@ mod pacing;
 mod sent;
 
 pub use pacer::Pacer;
-pub use pacing::{
-    Pacing, START_PACING, START_PADDING, START_WINDOW, Tally,
-};
+pub use pacing::{Pacing, START_PACING, START_PADDING, START_WINDOW, Tally};
 pub use sent::{Kind, Sent, SentList};

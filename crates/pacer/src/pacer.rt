@@ -12,7 +12,9 @@ use crate::course::{Course, Terms, run};
 use crate::force::in_force;
 use crate::pacing::{Pacing, START_PACING, START_PADDING, START_WINDOW, Tally};
 use crate::sent::SentList;
-use gcc_units::{GREATEST_MOMENT, GREATEST_PACKET, Level, MOST_SENDS, MOST_WAITING, Moment, NoMemory, Rate};
+use gcc_units::{
+    GREATEST_MOMENT, GREATEST_PACKET, Level, MOST_SENDS, MOST_WAITING, Moment, NoMemory, Rate,
+};
 use pace_budget::Bucket;
 use pace_queues::{Full, Queues, Ticket};
 use probe_clusters::Clusters;
@@ -88,7 +90,9 @@ impl Pacer {
         ensures { self.new ≡ advanced self.old now }
     {
         let time = now - self.moment;
-        self.course.media.advance(self.rate, time, self.pacing.window);
+        self.course
+            .media
+            .advance(self.rate, time, self.pacing.window);
         self.course
             .padding
             .advance(self.pacing.padding_rate, time, self.pacing.window);

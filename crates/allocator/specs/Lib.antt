@@ -1,0 +1,5 @@
+pub mod Greatest
+pub mod Streams
+pub mod Order
+pub mod Shares
+pub mod Laws

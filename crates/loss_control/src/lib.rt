@@ -1,0 +1,128 @@
+//! Loss control: an estimate that falls where reports tell of many losses, and rises where they tell of few
+//! (draft-ietf-rmcat-gcc-02, section 6, in outline).
+//!
+//! Rates are bit/s, moments microseconds. When counts are judged, the thresholds and the roundings are this
+//! project's own rules.
+#![tactic(auto)]
+
+ghost use Rattle.std.specs.Prelude.{◌≡◌, ◌≤◌, [], ◌∷◌, ◌++◌, List, max, unwrap_or};
+ghost use Rattle.gcc_units.specs.Rates.{IsRate, IsBounds, IsInBounds, bounded};
+ghost use Rattle.loss_control.specs.Rule.{Counts, begun, after, with_estimate};
+ghost use Rattle.loss_control.specs.Given.{StandsFor, TakesReport};
+
+use gcc_units::{Bounds, Moment, Rate};
+use std::marker::Model;
+
+mod step;
+
+use step::{State, after, bounded};
+
+/// How long counts are gathered at least before they are judged, in microseconds.
+pub const LOSS_PERIOD: u64 = 1_000_000;
+
+/// How many packets are gathered at least before they are judged.
+pub const FEWEST_PACKETS: u64 = 20;
+
+/// The most packets that one report tells to be received, and the most that it tells to be missing.
+pub const MOST_COUNT: u32 = 65_535;
+
+/// The most reports whose counts are gathered: 2^20.
+pub const MOST_REPORTS: u32 = 1_048_576;
+
+/// The estimate of loss control, and the counts that are gathered for its next change.
+#[derive(Drop)]
+pub struct Loss {
+    state: State,
+}
+
+impl Model for Loss {
+    ghost use Rattle.loss_control.specs.declared.step.State.{State};
+    ghost use Rattle.gcc_units.specs.Rates.{IsRate};
+
+    ghost Value = { State };
+
+    ghost view = { λ l. l.state };
+
+    ghost invariant = { λ l. IsRate l.state.estimate };
+}
+
+impl Loss {
+    /// Starts at a rate, with no counts.
+    pub fn new(start: Rate) -> Self
+        requires { IsRate start }
+        ensures state { result ≡ begun start }
+        ensures stands { StandsFor result [] }
+    {
+        Loss {
+            state: State {
+                estimate: start,
+                received: 0,
+                missing: 0,
+                since: None,
+            },
+        }
+    }
+
+    /// Takes the counts of a report at a moment, and answers the estimate after them.
+    pub fn step(&mut self, received: u32, missing: u32, now: Moment, bounds: Bounds) -> Rate
+        requires received { received ≤ MOST_COUNT }
+        requires missing { missing ≤ MOST_COUNT }
+        requires bounds { IsBounds bounds }
+        requires few { TakesReport self.old }
+        ensures state { self.new ≡ after self.old (record { received = received; missing = missing }) now bounds }
+        ensures rate { result ≡ self.new.estimate }
+        ensures within { IsInBounds bounds result }
+        ensures stands { (reports : List Counts) → StandsFor self.old reports → StandsFor self.new (reports ++ record { received = received; missing = missing } ∷ []) }
+    {
+        self.state = after(self.state, received, missing, now, bounds);
+        self.state.estimate
+    }
+
+    /// The estimate.
+    pub fn rate(&self) -> Rate
+        ensures value { result ≡ self.now.estimate }
+        ensures rate { IsRate result }
+    {
+        self.state.estimate
+    }
+
+    /// Puts the estimate to `start` where one is given, and then into the bounds. All else stays.
+    pub fn set(&mut self, start: Option<Rate>, bounds: Bounds) -> Rate
+        requires { IsBounds bounds }
+        ensures state { self.new ≡ with_estimate self.old (bounded bounds (unwrap_or start self.old.estimate)) }
+        ensures rate { result ≡ self.new.estimate }
+        ensures within { IsInBounds bounds result }
+        ensures stands { (reports : List Counts) → StandsFor self.old reports → StandsFor self.new reports }
+    {
+        let rate = start.unwrap_or(self.state.estimate);
+        self.put(rate, bounds)
+    }
+
+    /// Puts the estimate to the greater of itself and what a probe gave, and then into the bounds. All else
+    /// stays.
+    pub fn take_probe(&mut self, probed: Rate, bounds: Bounds) -> Rate
+        requires { IsBounds bounds }
+        ensures state { self.new ≡ with_estimate self.old (bounded bounds (max self.old.estimate probed)) }
+        ensures rate { result ≡ self.new.estimate }
+        ensures within { IsInBounds bounds result }
+        ensures stands { (reports : List Counts) → StandsFor self.old reports → StandsFor self.new reports }
+    {
+        let rate = self.state.estimate.max(probed);
+        self.put(rate, bounds)
+    }
+
+    /// Puts the estimate to a rate, put in bounds.
+    fn put(&mut self, rate: Rate, bounds: Bounds) -> Rate
+        requires { IsBounds bounds }
+        ensures state { self.new ≡ with_estimate self.old (bounded bounds rate) }
+        ensures rate { result ≡ self.new.estimate }
+        ensures within { IsInBounds bounds result }
+        ensures stands { (reports : List Counts) → StandsFor self.old reports → StandsFor self.new reports }
+    {
+        self.state.estimate = bounded(rate, bounds);
+        self.state.estimate
+    }
+}
+
+#[cfg(test)]
+mod tests;

@@ -88,8 +88,7 @@ impl Control {
     /// Puts the estimate to the start where one is given, and then into the bounds. All else stays. It answers
     /// the estimate.
     pub fn set(&mut self, start: Option<Rate>, bounds: Bounds) -> Rate
-        requires start { ForSome start IsRate }
-        requires bounds { IsBounds bounds }
+        requires { IsBounds bounds }
         ensures state { self.new ≡ set_to self.old start bounds }
         ensures rate { result ≡ self.new.rate }
         ensures within { IsInBounds bounds result }

@@ -1,9 +1,9 @@
 -- Few deeds leave small sums.
-use Rattle.std.proofs.Common.{◌≡◌, ℕ, suc, zero, ◌+◌, ◌*◌, ◌<◌, ◌≤◌, ◌==◌, Bool, true, false, if◌then◌else◌, List, [], ◌∷◌, ◌++◌, length, sum, sum_by, count_by, All, slice_get, Option, Some, None, refl, sym, ap, subst, ◌∙◌, arith}
+use Rattle.std.proofs.Common.{◌≡◌, ℕ, suc, zero, ◌+◌, ◌*◌, ◌<◌, ◌≤◌, ◌==◌, Bool, true, false, if◌then◌else◌, List, [], ◌∷◌, ◌++◌, length, sum, sum_by, count_by, All, slice_get, Option, Some, None, refl, sym, ap, subst, ◌∙◌, zero-add, arith}
 use Rattle.std.specs.List.{list_any}
 use Rattle.std.specs.Option.{ForSome}
 use Rattle.std.proofs.lemmas.List.{length-append}
-use Rattle.std.proofs.lemmas.List.Elements.{All-head, All-tail}
+use Rattle.std.proofs.lemmas.List.Elements.{All-head, All-tail, All-push}
 use Rattle.std.proofs.lemmas.List.Sums.{sum_by-append, sum_by-cons}
 use Rattle.gcc_units.specs.declared.shared_types.Credit.{Credit}
 use Rattle.gcc_units.specs.declared.limits.TheConstants.{MOST_PACKETS, GREATEST_PACKET}
@@ -11,7 +11,7 @@ use Rattle.probe_clusters.specs.declared.cluster.Cluster.{Cluster}
 use Rattle.probe_clusters.specs.declared.heard.Heard.{Heard}
 use Rattle.probe_clusters.specs.Heard.{heard_of}
 use Rattle.probe_clusters.specs.Cluster.{IsHeardSmall, IsSmall}
-use Rattle.probe_clusters.specs.Deeds.{Deed, Plan, Send, Note, Take, rates, size_by, sizes, names, credit_by, credits, takes, moments, cluster_of, clusters_from, clusters, StandsFor, is_send, is_note, IsSizeWithin, IsWithin}
+use Rattle.probe_clusters.specs.Deeds.{Deed, Plan, Send, Note, Take, rates, size_by, sizes, names, credit_by, credits, takes, moments, cluster_of, clusters_from, clusters, StandsFor, is_send, is_note, IsSizeWithin, IsWithin, ReachedBy}
 
 abbrev credit_bytes : List Credit → ℕ
 credit_bytes cs = sum_by (λ (c : Credit). c.size) cs
@@ -70,21 +70,50 @@ small_heard (c ∷ cs) most within h = λ x is. unwrapped _ x is (record { count
     unwrapped : (h x : Heard) → Some h ≡ Some x → IsHeardSmall h → IsHeardSmall x
     unwrapped h x is small = let same : h ≡ x = cc in subst IsHeardSmall same small
 
-small_cluster : (ds : List Deed) (k rate : ℕ) → IsWithin ds → IsSmall (cluster_of ds k rate)
+small_cluster : (ds : List Deed) (k rate : ℕ) → IsWithin MOST_PACKETS MOST_PACKETS ds → IsSmall (cluster_of ds k rate)
 small_cluster ds k rate within =
     let sent : Few (count_by is_send ds) (length (sizes k ds)) (sum (sizes k ds)) = few_sizes k ds within.sizes in
     record {
-      packets = omega (arith, sent.few, within.sends);
-      bytes = omega (arith, sent.small, within.sends);
-      heard = small_heard (credits k ds) (count_by is_note ds) within.credits (few_credits k ds within.sizes);
+      packets = omega (arith, sent.few, within.few_sends);
+      bytes = omega (arith, sent.small, within.few_sends);
+      heard = small_heard (credits k ds) (count_by is_note ds) within.few_credits (few_credits k ds within.sizes);
     }
 
-small_from : (ds : List Deed) (n : ℕ) (rs : List ℕ) (place : ℕ) (c : Cluster) → IsWithin ds → slice_get (clusters_from ds n rs) place ≡ Some c → IsSmall c
+small_from : (ds : List Deed) (n : ℕ) (rs : List ℕ) (place : ℕ) (c : Cluster) → IsWithin MOST_PACKETS MOST_PACKETS ds → slice_get (clusters_from ds n rs) place ≡ Some c → IsSmall c
 small_from ds n [] place c within at = cc
 small_from ds n (r ∷ rs) zero c within at = let same : cluster_of ds n r ≡ c = cc in subst IsSmall same (small_cluster ds n r within)
 small_from ds n (r ∷ rs) (suc place) c within at = small_from ds (n + 1) rs place c within at
 
--- each cluster that a value with few deeds has is small
-pub small-at : (cs : List Cluster) (ds : List Deed) (id : ℕ) (c : Cluster) → StandsFor cs ds → IsWithin ds → slice_get cs id ≡ Some c → IsSmall c
-small-at cs ds id c h within at =
-    small_from ds 0 (rates ds) id c within (ap (λ (bs : List Cluster). slice_get bs id) (sym h.are) ∙ at)
+-- each cluster that few deeds leave is small
+pub small-at : (cs : List Cluster) (id : ℕ) (c : Cluster) → ReachedBy MOST_PACKETS MOST_PACKETS cs → slice_get cs id ≡ Some c → IsSmall c
+small-at cs id c h at =
+    small_from h.deeds 0 (rates h.deeds) id c h.within (ap (λ (bs : List Cluster). slice_get bs id) (sym h.stands.are) ∙ at)
+
+-- ---- one deed more
+
+count_by-push : (test : Deed → Bool) (ds : List Deed) (d : Deed) → count_by test (ds ++ d ∷ []) ≡ count_by test ds + (if test d then 1 else 0)
+count_by-push test ds d = sum_by-append (λ (e : Deed). if test e then 1 else 0) ds (d ∷ []) ∙ ap (λ (n : ℕ). count_by test ds + n) (zero-add (if test d then 1 else 0))
+
+pub within-push : (sends credits : ℕ) (ds : List Deed) (d : Deed) → IsSizeWithin d → IsWithin sends credits ds
+    → IsWithin (sends + (if is_send d then 1 else 0)) (credits + (if is_note d then 1 else 0)) (ds ++ d ∷ [])
+within-push sends credits ds d size h = record {
+  few_sends = omega (arith, count_by-push is_send ds d, h.few_sends);
+  few_credits = omega (arith, count_by-push is_note ds d, h.few_credits);
+  sizes = All-push IsSizeWithin ds d h.sizes size;
+}
+
+pub reached-more : (sends credits m n : ℕ) (cs : List Cluster) → sends ≤ m → credits ≤ n → ReachedBy sends credits cs → ReachedBy m n cs
+reached-more sends credits m n cs less fewer h = record {
+  deeds = h.deeds;
+  stands = h.stands;
+  within = record { few_sends = omega (arith, h.within.few_sends); few_credits = omega (arith, h.within.few_credits); sizes = h.within.sizes };
+}
+
+-- the clusters that one deed more leaves
+pub reached-push : (sends credits : ℕ) (old new : List Cluster) (d : Deed) → IsSizeWithin d → ((ds : List Deed) → StandsFor old ds → StandsFor new (ds ++ d ∷ []))
+    → ReachedBy sends credits old → ReachedBy (sends + (if is_send d then 1 else 0)) (credits + (if is_note d then 1 else 0)) new
+reached-push sends credits old new d size stands h = record {
+  deeds = h.deeds ++ d ∷ [];
+  stands = stands h.deeds h.stands;
+  within = within-push sends credits h.deeds d size h.within;
+}

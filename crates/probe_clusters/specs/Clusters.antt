@@ -1,5 +1,5 @@
 -- Lists of probe clusters; a cluster's id is its place.
-use Rattle.std.specs.Prelude.{ℕ, zero, suc, ◌+◌, Bool, true, false, if◌then◌else◌, List, [], ◌∷◌, ◌++◌, map, position, slice_get, option_map, Option, Some, None}
+use Rattle.std.specs.Prelude.{◌≡◌, ◌<◌, ◌≤◌, length, slice_index_or, ℕ, zero, suc, ◌+◌, Bool, true, false, if◌then◌else◌, List, [], ◌∷◌, ◌++◌, map, position, slice_get, option_map, Option, Some, None}
 use Rattle.gcc_units.specs.declared.shared_types.Credit.{Credit}
 use Rattle.probe_clusters.specs.declared.cluster.Cluster.{Cluster}
 use Rattle.probe_clusters.specs.declared.probes.Outcome.{Outcome}
@@ -31,6 +31,11 @@ due_as now id (Some c) = if is_due c now then Some id else None
 abbrev pub due_at : ℕ → List Cluster → Option ℕ → Option ℕ
 due_at now cs None = None
 due_at now cs (Some id) = due_as now id (slice_get cs id)
+
+-- none of the first so many waits
+pub record AreOver (count : ℕ) (cs : List Cluster) : Type 0 where
+  pub below : count ≤ length cs
+  pub over : (k : ℕ) (d : Cluster) → k < count → waits (slice_index_or cs k d) ≡ false
 
 -- the current cluster, where it is due
 abbrev pub due : List Cluster → ℕ → Option ℕ

@@ -2,7 +2,7 @@
 use Rattle.std.specs.Prelude.{◌≡◌, ℕ, ◌+◌, ◌<◌, ◌≤◌, Bool, true, false, ◌==◌, if◌then◌else◌, List, [], ◌∷◌, ◌++◌, length, sum, map, count_by, All, slice_get, Option, Some, None}
 use Rattle.std.specs.List.{flat_map, list_any}
 use Rattle.gcc_units.specs.declared.shared_types.Credit.{Credit}
-use Rattle.gcc_units.specs.declared.limits.TheConstants.{MOST_PACKETS, GREATEST_PACKET}
+use Rattle.gcc_units.specs.declared.limits.TheConstants.{GREATEST_PACKET}
 use Rattle.probe_clusters.specs.declared.cluster.Cluster.{Cluster}
 use Rattle.probe_clusters.specs.declared.probes.Outcome.{Outcome}
 use Rattle.probe_clusters.specs.Heard.{heard_of}
@@ -110,11 +110,17 @@ IsSizeWithin (Send id size moment) = size ≤ GREATEST_PACKET
 IsSizeWithin (Note credit) = credit.size ≤ GREATEST_PACKET
 IsSizeWithin (Take id) = Unit {0}
 
--- no more packets and credits than one object is given, and none greater than a packet may be
-pub record IsWithin (ds : List Deed) : Type 0 where
-  pub sends : count_by is_send ds ≤ MOST_PACKETS
-  pub credits : count_by is_note ds ≤ MOST_PACKETS
+-- no more sends and credits than these, and no packet greater than one may be
+pub record IsWithin (sends credits : ℕ) (ds : List Deed) : Type 0 where
+  pub few_sends : count_by is_send ds ≤ sends
+  pub few_credits : count_by is_note ds ≤ credits
   pub sizes : All IsSizeWithin ds
+
+-- These are the clusters that some deeds leave, with no more sends and credits than these.
+pub record ReachedBy (sends credits : ℕ) (now : List Cluster) : Type 0 where
+  pub deeds : List Deed
+  pub stands : StandsFor now deeds
+  pub within : IsWithin sends credits deeds
 
 -- ---- the deeds of calls
 

@@ -2,3 +2,4 @@ pub mod Heard
 pub mod Cluster
 pub mod Clusters
 pub mod Deeds
+pub mod Laws

@@ -8,8 +8,10 @@
 
 mod cluster;
 mod heard;
+mod laws;
 mod probes;
 
+pub use laws::{clusters_wait_once, credits_together, results_are_taken_once};
 pub use probes::{Clusters, Outcome, PlanFault};
 
 /// The fewest packets that are sent for a cluster.

@@ -1,13 +1,13 @@
-ghost use Rattle.std.specs.Prelude.{◌≡◌, ◌↔◌, ◌<◌, ◌≤◌, ◌+◌, List, [], ◌∷◌, ◌++◌, length, count_by, position, IsNone, IsSome, IfSome, IfNone, IfErr, IfOk, OnOk, OnErr, IsErr};
+ghost use Rattle.std.specs.Prelude.{◌≡◌, ℕ, ◌↔◌, ◌<◌, ◌≤◌, ◌+◌, ◌^◌, if◌then◌else◌, List, [], ◌∷◌, ◌++◌, length, count_by, position, IsNone, IsSome, IfSome, IfNone, IfErr, IfOk, OnOk, OnErr, IsErr};
 ghost use Rattle.gcc_units.specs.Listed.{bare};
 ghost use Rattle.gcc_units.specs.Rates.{IsRate};
 ghost use Rattle.probe_clusters.specs.declared.cluster.Cluster.{Cluster};
 ghost use Rattle.probe_clusters.specs.Cluster.{planned, waits, is_ready};
-ghost use Rattle.probe_clusters.specs.Clusters.{due, sent, noted, ready, after_ready, outcomes, after_outcomes, listed};
-ghost use Rattle.probe_clusters.specs.Deeds.{Deed, Plan, Note, StandsFor, IsWithin, send, takings};
+ghost use Rattle.probe_clusters.specs.Clusters.{AreOver, due, sent, noted, ready, after_ready, outcomes, after_outcomes, listed};
+ghost use Rattle.probe_clusters.specs.Deeds.{Deed, clusters, Plan, Note, StandsFor, ReachedBy, send, takings};
 
 use crate::cluster::Cluster;
-use gcc_units::{Credit, GREATEST_PACKET, MOST_CLUSTERS, Moment, NoMemory, Rate};
+use gcc_units::{Credit, GREATEST_PACKET, MOST_CLUSTERS, MOST_PACKETS, Moment, NoMemory, Rate};
 use std::alloc::Global;
 use std::marker::Model;
 
@@ -34,6 +34,8 @@ pub struct Outcome {
 pub struct Clusters {
     held: Vec<Cluster>,
     room: u32,
+    // How many at the front no longer wait, which are passed over in the search for the current one.
+    over: u32,
 }
 
 impl Model for Clusters {
@@ -41,12 +43,13 @@ impl Model for Clusters {
     ghost use Rattle.std.specs.Vec.{vec_len, vec_capacity};
     ghost use Rattle.gcc_units.specs.Listed.{Listed};
     ghost use Rattle.probe_clusters.specs.declared.cluster.Cluster.{Cluster};
+    ghost use Rattle.probe_clusters.specs.Clusters.{AreOver};
 
     ghost Value = { Listed Cluster };
 
     ghost view = { λ s. record { items = s.held.items; spare = s.room } };
 
-    ghost invariant = { λ s. (vec_len s.held + s.room ≤ vec_capacity s.held) × (vec_len s.held + s.room < 2 ^ 32) };
+    ghost invariant = { λ s. (vec_len s.held + s.room ≤ vec_capacity s.held) × (vec_len s.held + s.room < 2 ^ 32) × AreOver s.over s.held.items };
 }
 
 impl Clusters {
@@ -54,10 +57,12 @@ impl Clusters {
     pub fn new(alloc: Global) -> Clusters
         ensures empty { result ≡ bare [] }
         ensures stands { StandsFor result.items [] }
+        ensures reached { ReachedBy 0 0 result.items }
     {
         Clusters {
             held: Vec::new(alloc),
             room: 0,
+            over: 0,
         }
     }
 
@@ -69,6 +74,7 @@ impl Clusters {
         ensures id { IfOk result (λ id. id ≡ length self.old.items) }
         ensures items { OnOk result (self.new.items ≡ self.old.items ++ planned rate ∷ []) }
         ensures stands { (ds : List Deed) → StandsFor self.old.items ds → OnOk result (StandsFor self.new.items (ds ++ Plan rate ∷ [])) }
+        ensures reached { (sends credits : ℕ) → ReachedBy sends credits self.old.items → OnOk result (ReachedBy sends credits self.new.items) }
         ensures spare { OnOk result (self.old.spare ≤ self.new.spare + 1) }
         ensures err { OnErr result (self.new ≡ self.old) }
 
@@ -107,9 +113,10 @@ impl Clusters {
 
     /// How many clusters wait: too few packets were sent for them, or too few bytes for their rate.
     pub fn waiting(&self) -> u32
-        ensures { result ≡ count_by waits self.now.items }
+        ensures value { result ≡ count_by waits self.now.items }
+        ensures stands { (ds : List Deed) → StandsFor self.now.items ds → result ≡ count_by waits (clusters ds) }
     {
-        count_waiting(self.held.as_slice()) as u32
+        count_waiting(self.held.as_slice(), self.over as usize) as u32
     }
 
     /// The id of the current cluster, the waiting one with the least id, where it is due: nothing was
@@ -118,8 +125,9 @@ impl Clusters {
     pub fn due(&self, now: Moment) -> Option<u32>
         ensures value { result ≡ due self.now.items now }
         ensures bound { IfSome result (λ id. id < length self.now.items) }
+        ensures stands { (ds : List Deed) → StandsFor self.now.items ds → result ≡ due (clusters ds) now }
     {
-        let id = current(self.held.as_slice())?;
+        let id = current(self.held.as_slice(), self.over as usize)?;
         if self.held[id].is_due(now) {
             Some(id as u32)
         } else {
@@ -131,16 +139,19 @@ impl Clusters {
     pub fn sent(&mut self, size: u32, now: Moment)
         requires due { IsSome (due self.old.items now) }
         requires size { size ≤ GREATEST_PACKET }
-        requires within { (ds : List Deed) × StandsFor self.old.items ds × IsWithin ds }
+        requires within { ReachedBy MOST_PACKETS MOST_PACKETS self.old.items }
         ensures items { self.new.items ≡ sent size now self.old.items }
         ensures spare { self.new.spare ≡ self.old.spare }
         ensures stands { (ds : List Deed) → StandsFor self.old.items ds
             → StandsFor self.new.items (ds ++ send (due self.old.items now) size now) }
+        ensures reached { (sends credits : ℕ) → ReachedBy sends credits self.old.items → ReachedBy (sends + 1) credits self.new.items }
     {
-        let Some(id) = current(self.held.as_slice()) else {
+        let Some(id) = current(self.held.as_slice(), self.over as usize) else {
             unreachable!()
         };
-        self.held[id] = self.held[id].with_packet(size, now);
+        let cluster = self.held[id].with_packet(size, now);
+        self.held[id] = cluster;
+        self.over = over_from(id, &cluster);
     }
 
     /// Counts the credit of a cluster's packet. A credit that names no cluster changes nothing, nor
@@ -148,10 +159,11 @@ impl Clusters {
     pub fn judge(&mut self, credit: &Credit)
         requires named { IfSome credit.now.cluster (λ id. id < length self.old.items) }
         requires size { credit.now.size ≤ GREATEST_PACKET }
-        requires within { (ds : List Deed) × StandsFor self.old.items ds × IsWithin ds }
+        requires within { ReachedBy MOST_PACKETS MOST_PACKETS self.old.items }
         ensures items { self.new.items ≡ noted credit.now self.old.items }
         ensures spare { self.new.spare ≡ self.old.spare }
         ensures stands { (ds : List Deed) → StandsFor self.old.items ds → StandsFor self.new.items (ds ++ Note credit.now ∷ []) }
+        ensures reached { (sends credits : ℕ) → ReachedBy sends credits self.old.items → ReachedBy sends (credits + 1) self.new.items }
     {
         let Some(id) = credit.cluster else {
             return;
@@ -167,8 +179,10 @@ impl Clusters {
         ensures value { result ≡ ready self.old.items }
         ensures items { self.new.items ≡ after_ready self.old.items }
         ensures spare { self.new.spare ≡ self.old.spare }
+        ensures answer { (ds : List Deed) → StandsFor self.old.items ds → result ≡ ready (clusters ds) }
         ensures stands { (ds : List Deed) → StandsFor self.old.items ds
             → StandsFor self.new.items (ds ++ takings (listed result)) }
+        ensures reached { (sends credits : ℕ) → ReachedBy sends credits self.old.items → ReachedBy sends credits self.new.items }
 
         // For a loop that takes all of them: it is the first of the outcomes, and the others are left.
         ensures first { outcomes self.old.items ≡ listed result ++ outcomes self.new.items }
@@ -210,17 +224,48 @@ impl Clusters {
     }
 }
 
-fn count_waiting(clusters: &[Cluster]) -> usize
+// How many clusters wait, of which so many at the front do not.
+fn count_waiting(clusters: &[Cluster], over: usize) -> usize
+    requires { AreOver over clusters.now }
+    ensures { result ≡ count_by waits clusters.now }
+{
+    count_in(&clusters[over..])
+}
+
+fn count_in(clusters: &[Cluster]) -> usize
     ensures { result ≡ count_by waits clusters.now }
 {
     clusters.iter().filter(|c| c.waits()).count()
 }
 
-// The waiting cluster with the least id.
-fn current(clusters: &[Cluster]) -> Option<usize>
+// The waiting cluster with the least id; so many at the front do not wait.
+fn current(clusters: &[Cluster], over: usize) -> Option<usize>
+    requires { AreOver over clusters.now }
     ensures { result ≡ position waits clusters.now }
 {
+    match first_in(&clusters[over..]) {
+        Some(place) => Some(over + place),
+        None => None,
+    }
+}
+
+fn first_in(clusters: &[Cluster]) -> Option<usize>
+    ensures value { result ≡ position waits clusters.now }
+    ensures bound { IfSome result (λ place. place < length clusters.now) }
+{
     clusters.iter().position(|c| c.waits())
+}
+
+// How many clusters are over, where those before this one are.
+fn over_from(id: usize, cluster: &Cluster) -> u32
+    requires { id + 1 < 2 ^ 32 }
+    ensures { result ≡ (if waits cluster.now then id else id + 1) }
+{
+    if cluster.waits() {
+        id as u32
+    } else {
+        id as u32 + 1
+    }
 }
 
 // The cluster with the least id that has a result and gave none.

@@ -3,12 +3,13 @@ use Rattle.gcc_units.specs.Listed.{Listed}
 use Rattle.probe_clusters.specs.declared.cluster.Cluster.{Cluster}
 use Rattle.probe_clusters.specs.declared.probes.Outcome.{Outcome}
 use Rattle.probe_clusters.specs.Cluster.{planned, waits, is_ready, with_packet, with_credit, with_result_taken}
-use Rattle.probe_clusters.specs.Clusters.{changed, changed_where, current, due, sent, noted, outcome, outcomes, ready, after_ready, after_outcomes}
-use Rattle.probe_clusters.specs.Deeds.{Deed, Plan, Send, Note, Take, StandsFor, IsWithin, send}
+use Rattle.probe_clusters.specs.Clusters.{AreOver, changed, changed_where, current, due, sent, noted, outcome, outcomes, ready, after_ready, after_outcomes}
+use Rattle.probe_clusters.specs.Deeds.{Deed, Plan, Send, Note, Take, StandsFor, ReachedBy, send}
 use Rattle.probe_clusters.proofs.Places.{IsFirst, first_found, place_of, found, written, due-current}
+use Rattle.probe_clusters.proofs.Passed.{AreOver-sent}
 use Rattle.probe_clusters.proofs.Pushes.{stands-sent, stands-noted, stands-unnoted, stands-taken, stands-planned}
 use Rattle.probe_clusters.proofs.Taking.{Took, took, NoneLeft, none_left}
-use Rattle.probe_clusters.proofs.Bounds.{small-at}
+use Rattle.probe_clusters.proofs.Bounds.{small-at, reached-push, reached-more}
 use Rattle.probe_clusters.proofs.probes.Clusters.judge.Goals as goal
 
 pub returns-in_default-clause-stands : goal.returns-in_default-clause-stands
@@ -21,7 +22,7 @@ with_credit-requires-clause-small c =
     let same : c.self.inside.held.items ≡ items = ap (λ (v : Listed Cluster). v.items) c.self.view_is in
     let P : Option ℕ → Type 0 = λ o. IfSome o (λ k. k < length items) in
     let below : id < length items = subst P c.in-Some.is c.requires.named in
-    small-at items c.requires.within.0 id c.index.result.now c.requires.within.1 c.requires.within.2
+    small-at items id c.index.result.now c.requires.within
     (found c.self.inside.held.items items id c.index.result.now same below c.index.ensures)
 
 pub returns-clause-items : goal.returns-clause-items
@@ -44,3 +45,19 @@ returns-clause-stands c = λ ds h.
     let new = written (with_credit c.args.credit.now) c.self.inside.held.items items id c.index.result.now c.with_credit.result same below c.index.ensures c.with_credit.ensures in
     let P : List Cluster → Type 0 = λ cs. StandsFor cs (ds ++ Note c.args.credit.now ∷ []) in
     subst P (sym new) (stands-noted items ds c.args.credit.now id c.in-Some.is below h)
+
+pub returns-clause-reached : goal.returns-clause-reached
+returns-clause-reached c = λ sends credits h.
+    let items = c.args.self.now.items in
+    let id = c.in-Some.id in
+    let same : c.self.inside.held.items ≡ items = ap (λ (v : Listed Cluster). v.items) c.self.view_is in
+    let P : Option ℕ → Type 0 = λ o. IfSome o (λ k. k < length items) in
+    let below : id < length items = subst P c.in-Some.is c.requires.named in
+    let new = written (with_credit c.args.credit.now) c.self.inside.held.items items id c.index.result.now c.with_credit.result same below c.index.ensures c.with_credit.ensures in
+    let P : List Cluster → Type 0 = λ cs. ReachedBy (sends + 0) (credits + 1) cs in
+    reached-more (sends + 0) (credits + 1) sends (credits + 1) _ (omega arith) (omega arith)
+    (subst P (sym new) (reached-push sends credits items (changed (with_credit c.args.credit.now) id items) (Note c.args.credit.now) c.requires.size
+    (λ ds h. stands-noted items ds c.args.credit.now id c.in-Some.is below h) h))
+
+pub returns-in_default-clause-reached : goal.returns-in_default-clause-reached
+returns-in_default-clause-reached c = λ sends credits h. reached-more sends credits sends (credits + 1) c.args.self.now.items (omega arith) (omega arith) h

@@ -3,12 +3,13 @@ use Rattle.gcc_units.specs.Listed.{Listed}
 use Rattle.probe_clusters.specs.declared.cluster.Cluster.{Cluster}
 use Rattle.probe_clusters.specs.declared.probes.Outcome.{Outcome}
 use Rattle.probe_clusters.specs.Cluster.{planned, waits, is_ready, with_packet, with_credit, with_result_taken}
-use Rattle.probe_clusters.specs.Clusters.{changed, changed_where, current, due, sent, noted, outcome, outcomes, ready, after_ready, after_outcomes}
-use Rattle.probe_clusters.specs.Deeds.{Deed, Plan, Send, Note, Take, StandsFor, IsWithin, send}
+use Rattle.probe_clusters.specs.Clusters.{AreOver, changed, changed_where, current, due, sent, noted, outcome, outcomes, ready, after_ready, after_outcomes}
+use Rattle.probe_clusters.specs.Deeds.{Deed, Plan, Send, Note, Take, StandsFor, ReachedBy, send}
 use Rattle.probe_clusters.proofs.Places.{IsFirst, first_found, place_of, found, written, due-current}
+use Rattle.probe_clusters.proofs.Passed.{AreOver-sent}
 use Rattle.probe_clusters.proofs.Pushes.{stands-sent, stands-noted, stands-unnoted, stands-taken, stands-planned}
 use Rattle.probe_clusters.proofs.Taking.{Took, took, NoneLeft, none_left}
-use Rattle.probe_clusters.proofs.Bounds.{small-at}
+use Rattle.probe_clusters.proofs.Bounds.{small-at, reached-push, reached-more}
 use Rattle.probe_clusters.proofs.probes.Clusters.plan.Goals as goal
 
 pub returns-in-Ok-clause-stands : goal.returns-in-Ok-clause-stands
@@ -16,3 +17,11 @@ returns-in-Ok-clause-stands c = λ ds h.
     let P : List Cluster → Type 0 = λ cs. StandsFor cs (ds ++ Plan c.args.rate ∷ []) in
     let new : c.add.new.self.items ≡ c.args.self.now.items ++ planned c.args.rate ∷ [] = search rules in
     subst P (sym new) (stands-planned c.args.self.now.items ds c.args.rate h)
+
+pub returns-in-Ok-clause-reached : goal.returns-in-Ok-clause-reached
+returns-in-Ok-clause-reached c = λ sends credits h.
+    let P : List Cluster → Type 0 = λ cs. ReachedBy (sends + 0) (credits + 0) cs in
+    let new : c.add.new.self.items ≡ c.args.self.now.items ++ planned c.args.rate ∷ [] = search rules in
+    reached-more (sends + 0) (credits + 0) sends credits _ (omega arith) (omega arith)
+    (subst P (sym new) (reached-push sends credits c.args.self.now.items (c.args.self.now.items ++ planned c.args.rate ∷ []) (Plan c.args.rate) tt
+    (λ ds h. stands-planned c.args.self.now.items ds c.args.rate h) h))

@@ -3,12 +3,13 @@ use Rattle.gcc_units.specs.Listed.{Listed}
 use Rattle.probe_clusters.specs.declared.cluster.Cluster.{Cluster}
 use Rattle.probe_clusters.specs.declared.probes.Outcome.{Outcome}
 use Rattle.probe_clusters.specs.Cluster.{planned, waits, is_ready, with_packet, with_credit, with_result_taken}
-use Rattle.probe_clusters.specs.Clusters.{changed, changed_where, current, due, sent, noted, outcome, outcomes, ready, after_ready, after_outcomes}
-use Rattle.probe_clusters.specs.Deeds.{Deed, Plan, Send, Note, Take, StandsFor, IsWithin, send}
+use Rattle.probe_clusters.specs.Clusters.{AreOver, changed, changed_where, current, due, sent, noted, outcome, outcomes, ready, after_ready, after_outcomes}
+use Rattle.probe_clusters.specs.Deeds.{Deed, Plan, Send, Note, Take, StandsFor, ReachedBy, send}
 use Rattle.probe_clusters.proofs.Places.{IsFirst, first_found, place_of, found, written, due-current}
+use Rattle.probe_clusters.proofs.Passed.{AreOver-sent}
 use Rattle.probe_clusters.proofs.Pushes.{stands-sent, stands-noted, stands-unnoted, stands-taken, stands-planned}
 use Rattle.probe_clusters.proofs.Taking.{Took, took, NoneLeft, none_left}
-use Rattle.probe_clusters.proofs.Bounds.{small-at}
+use Rattle.probe_clusters.proofs.Bounds.{small-at, reached-push, reached-more}
 use Rattle.probe_clusters.proofs.probes.Clusters.ready.Goals as goal
 
 pub returns-in_default-clause-none : goal.returns-in_default-clause-none
@@ -68,6 +69,21 @@ returns-clause-stands c = λ ds h.
     let given : outcome id c.index.result.now ≡ record { id = id; result = c.result.result } = ap (λ (r : Option ℕ). record { id = id; result = r }) (sym c.result.ensures) in
     let P : List Cluster → Type 0 = λ cs. StandsFor cs (ds ++ Take id ∷ []) in
     subst P (sym new) (stands-taken items ds id one.below h)
+
+pub returns-clause-reached : goal.returns-clause-reached
+returns-clause-reached c = λ sends credits h.
+    let items = c.args.self.now.items in
+    let id = c.in-Some.id in
+    let same : c.self.inside.held.items ≡ items = ap (λ (v : Listed Cluster). v.items) c.self.view_is in
+    let place : position is_ready items ≡ Some id =
+        place_of is_ready c.as_slice.result.now c.self.inside.held.items items c.first_ready.result (Some id) c.first_ready.ensures c.in-Some.is c.as_slice.ensures.value same in
+    let one : IsFirst is_ready items id = first_found is_ready items id place in
+    let new = written with_result_taken c.self.inside.held.items items id c.index.result.now c.with_result_taken.result same one.below c.index.ensures c.with_result_taken.ensures in
+    let this : Took items id c.index.result.now = took items id c.index.result.now place (found c.self.inside.held.items items id c.index.result.now same one.below c.index.ensures) in
+    let given : outcome id c.index.result.now ≡ record { id = id; result = c.result.result } = ap (λ (r : Option ℕ). record { id = id; result = r }) (sym c.result.ensures) in
+    let P : List Cluster → Type 0 = λ cs. ReachedBy (sends + 0) (credits + 0) cs in
+    reached-more (sends + 0) (credits + 0) sends credits _ (omega arith) (omega arith)
+    (subst P (sym new) (reached-push sends credits items (changed with_result_taken id items) (Take id) tt (λ ds h. stands-taken items ds id one.below h) h))
 
 pub returns-clause-first : goal.returns-clause-first
 returns-clause-first c =

@@ -3,23 +3,33 @@ use Rattle.gcc_units.specs.Listed.{Listed}
 use Rattle.probe_clusters.specs.declared.cluster.Cluster.{Cluster}
 use Rattle.probe_clusters.specs.declared.probes.Outcome.{Outcome}
 use Rattle.probe_clusters.specs.Cluster.{planned, waits, is_ready, with_packet, with_credit, with_result_taken}
-use Rattle.probe_clusters.specs.Clusters.{changed, changed_where, current, due, sent, noted, outcome, outcomes, ready, after_ready, after_outcomes}
-use Rattle.probe_clusters.specs.Deeds.{Deed, Plan, Send, Note, Take, StandsFor, IsWithin, send}
+use Rattle.probe_clusters.specs.Clusters.{AreOver, changed, changed_where, current, due, sent, noted, outcome, outcomes, ready, after_ready, after_outcomes}
+use Rattle.probe_clusters.specs.Deeds.{Deed, Plan, Send, Note, Take, StandsFor, ReachedBy, send}
 use Rattle.probe_clusters.proofs.Places.{IsFirst, first_found, place_of, found, written, due-current}
+use Rattle.probe_clusters.proofs.Passed.{AreOver-sent}
 use Rattle.probe_clusters.proofs.Pushes.{stands-sent, stands-noted, stands-unnoted, stands-taken, stands-planned}
 use Rattle.probe_clusters.proofs.Taking.{Took, took, NoneLeft, none_left}
-use Rattle.probe_clusters.proofs.Bounds.{small-at}
+use Rattle.probe_clusters.proofs.Bounds.{small-at, reached-push, reached-more}
 use Rattle.probe_clusters.proofs.probes.Clusters.sent.Goals as goal
 
-pub with_packet-requires-clause-small : goal.with_packet-requires-clause-small
-with_packet-requires-clause-small c =
+pub invariant_of-self : goal.invariant_of-self
+invariant_of-self c =
+    let held = c.self.inside.held.items in
+    let place : position waits held ≡ Some c.in-Some.id =
+        place_of waits c.as_slice.result.now held held c.current.result (Some c.in-Some.id) c.current.ensures c.in-Some.is c.as_slice.ensures.value refl in
+    let P : ℕ → Type 0 = λ n. AreOver n (slice_set held c.in-Some.id c.with_packet-cluster.result) in
+    (c.self.invariant.0, c.self.invariant.1,
+    subst P (sym c.over_from-self-inside.ensures) (AreOver-sent held c.in-Some.id c.with_packet-cluster.result (first_found waits held c.in-Some.id place)))
+
+pub with_packet-cluster-requires-clause-small : goal.with_packet-cluster-requires-clause-small
+with_packet-cluster-requires-clause-small c =
     let items = c.args.self.now.items in
     let id = c.in-Some.id in
     let same : c.self.inside.held.items ≡ items = ap (λ (v : Listed Cluster). v.items) c.self.view_is in
     let place : position waits items ≡ Some id =
         place_of waits c.as_slice.result.now c.self.inside.held.items items c.current.result (Some id) c.current.ensures c.in-Some.is c.as_slice.ensures.value same in
     let one : IsFirst waits items id = first_found waits items id place in
-    small-at items c.requires.within.0 id c.index.result.now c.requires.within.1 c.requires.within.2
+    small-at items id c.index.result.now c.requires.within
     (found c.self.inside.held.items items id c.index.result.now same one.below c.index.ensures)
 
 pub returns-clause-items : goal.returns-clause-items
@@ -30,7 +40,7 @@ returns-clause-items c =
     let place : position waits items ≡ Some id =
         place_of waits c.as_slice.result.now c.self.inside.held.items items c.current.result (Some id) c.current.ensures c.in-Some.is c.as_slice.ensures.value same in
     let one : IsFirst waits items id = first_found waits items id place in
-    let new = written (with_packet c.args.size c.args.now) c.self.inside.held.items items id c.index.result.now c.with_packet.result same one.below c.index.ensures c.with_packet.ensures in
+    let new = written (with_packet c.args.size c.args.now) c.self.inside.held.items items id c.index.result.now c.with_packet-cluster.result same one.below c.index.ensures c.with_packet-cluster.ensures in
     new ∙ ap (λ (o : Option ℕ). changed_where (with_packet c.args.size c.args.now) o items) (sym place)
 
 pub returns-clause-stands : goal.returns-clause-stands
@@ -41,9 +51,23 @@ returns-clause-stands c = λ ds h.
     let place : position waits items ≡ Some id =
         place_of waits c.as_slice.result.now c.self.inside.held.items items c.current.result (Some id) c.current.ensures c.in-Some.is c.as_slice.ensures.value same in
     let one : IsFirst waits items id = first_found waits items id place in
-    let new = written (with_packet c.args.size c.args.now) c.self.inside.held.items items id c.index.result.now c.with_packet.result same one.below c.index.ensures c.with_packet.ensures in
+    let new = written (with_packet c.args.size c.args.now) c.self.inside.held.items items id c.index.result.now c.with_packet-cluster.result same one.below c.index.ensures c.with_packet-cluster.ensures in
     let named : due items c.args.now ≡ Some id = due-current items c.args.now id place c.requires.due in
     let stands : StandsFor (changed (with_packet c.args.size c.args.now) id items) (ds ++ send (Some id) c.args.size c.args.now) = stands-sent items ds id c.args.size c.args.now one.below h in
     let P : List Cluster → Type 0 = λ cs. StandsFor cs (ds ++ send (Some id) c.args.size c.args.now) in
-    let Q : Option ℕ → Type 0 = λ o. StandsFor (slice_set c.self.inside.held.items id c.with_packet.result) (ds ++ send o c.args.size c.args.now) in
+    let Q : Option ℕ → Type 0 = λ o. StandsFor (slice_set c.self.inside.held.items id c.with_packet-cluster.result) (ds ++ send o c.args.size c.args.now) in
     subst Q (sym named) (subst P (sym new) stands)
+
+pub returns-clause-reached : goal.returns-clause-reached
+returns-clause-reached c = λ sends credits h.
+    let items = c.args.self.now.items in
+    let id = c.in-Some.id in
+    let same : c.self.inside.held.items ≡ items = ap (λ (v : Listed Cluster). v.items) c.self.view_is in
+    let place : position waits items ≡ Some id =
+        place_of waits c.as_slice.result.now c.self.inside.held.items items c.current.result (Some id) c.current.ensures c.in-Some.is c.as_slice.ensures.value same in
+    let one : IsFirst waits items id = first_found waits items id place in
+    let new = written (with_packet c.args.size c.args.now) c.self.inside.held.items items id c.index.result.now c.with_packet-cluster.result same one.below c.index.ensures c.with_packet-cluster.ensures in
+    let P : List Cluster → Type 0 = λ cs. ReachedBy (sends + 1) (credits + 0) cs in
+    reached-more (sends + 1) (credits + 0) (sends + 1) credits _ (omega arith) (omega arith)
+    (subst P (sym new) (reached-push sends credits items (changed (with_packet c.args.size c.args.now) id items) (Send id c.args.size c.args.now) c.requires.size
+    (λ ds h. stands-sent items ds id c.args.size c.args.now one.below h) h))

@@ -1,11 +1,11 @@
 -- What a pace works on, and what it asks of it.
-use Rattle.std.specs.Prelude.{ℕ, pos, neg_ℤ, ◌+◌, ◌≤◌, ◌≤ℤ◌, List, [], ◌∷◌, All, count_by}
+use Rattle.std.specs.Prelude.{ℕ, pos, neg_ℤ, ◌+◌, ◌≤◌, ◌≤ℤ◌, List, [], ◌∷◌, All}
 use Rattle.std.specs.List.{flat_map}
 use Rattle.gcc_units.specs.declared.limits.TheConstants.{GREATEST_PACKET, MOST_PACKETS}
 use Rattle.pace_budget.specs.Level.{full}
 use Rattle.pace_queues.specs.declared.ticket.Ticket.{Ticket}
 use Rattle.probe_clusters.specs.declared.cluster.Cluster.{Cluster}
-use Rattle.probe_clusters.specs.Deeds.{Deed, Send, StandsFor, IsWithin, is_send}
+use Rattle.probe_clusters.specs.Deeds.{Deed, Send, ReachedBy}
 use Rattle.pacer.specs.declared.sent.Sent.{Sent}
 use Rattle.pacer.specs.declared.sent.Kind.{Kind}
 use Rattle.pacer.specs.declared.sent.Kind.TheVariants as kind
@@ -27,12 +27,11 @@ pub record IsFit (terms : Terms) (c : Course) : Type 0 where
   pub low : neg_ℤ full ≤ℤ terms.floor
   pub high : terms.floor ≤ℤ pos 0
 
--- these clusters stand for deeds with room for so many more packets
+-- these clusters were reached by so few sends that so many more may follow
 pub record HasRoom (more : ℕ) (now : List Cluster) : Type 0 where
-  pub deeds : List Deed
-  pub stands : StandsFor now deeds
-  pub within : IsWithin deeds
-  pub room : count_by is_send deeds + more ≤ MOST_PACKETS
+  pub sends : ℕ
+  pub reached : ReachedBy sends MOST_PACKETS now
+  pub room : sends + more ≤ MOST_PACKETS
 
 -- the packets that were sent for clusters
 abbrev pub probe_as : ℕ → Kind → ℕ → List Deed

@@ -1,13 +1,13 @@
 //! The course of one pace: the first rule that applies, and what a send does.
 
-ghost use Rattle.std.specs.Prelude.{◌≡◌, ◌+◌, ◌≤◌, ◌<◌, ◌^◌, ◌++◌, [], ◌∷◌, List, length, Some};
+ghost use Rattle.std.specs.Prelude.{◌≡◌, ℕ, ◌+◌, ◌≤◌, ◌<◌, ◌^◌, ◌++◌, [], ◌∷◌, List, length, Some};
 ghost use Rattle.pace_queues.specs.Waiting.{next};
-ghost use Rattle.probe_clusters.specs.Deeds.{Deed, StandsFor};
+ghost use Rattle.probe_clusters.specs.Deeds.{Deed, StandsFor, ReachedBy};
 ghost use Rattle.pacer.specs.Pace.{rule, after, after_all, paced, is_audio, record_of, padding_of, index_of, unsent};
 ghost use Rattle.pacer.specs.Course.{standing, IsFit, HasRoom, probes_of, probe_by};
 
 use crate::sent::{Kind, Sent, SentList};
-use gcc_units::{Class, Level, MOST_SENDS, Moment, PADDING_PACKET};
+use gcc_units::{Class, Level, MOST_PACKETS, MOST_SENDS, Moment, PADDING_PACKET};
 use pace_budget::Bucket;
 use pace_queues::{Queues, Ticket};
 use probe_clusters::Clusters;
@@ -112,6 +112,7 @@ fn carry_out(course: &mut Course, clusters: &mut Clusters, number: u64, terms: T
     ensures fit { IsFit terms course.new }
     ensures spare { clusters.new.spare ≡ clusters.old.spare }
     ensures stands { (ds : List Deed) → StandsFor clusters.old.items ds → StandsFor clusters.new.items (ds ++ probe_by terms.moment sent) }
+    ensures reached { (sends : ℕ) → ReachedBy sends MOST_PACKETS clusters.old.items → ReachedBy (sends + 1) MOST_PACKETS clusters.new.items }
 {
     take_out(&mut course.queues, sent);
     match sent.kind {

@@ -30,7 +30,7 @@ loop-number-preserved c =
       subst (IsUnderWay c.args.terms (standing c.args.course.now c.args.clusters.now.items c.args.first) (standing c.carry_out.new.course c.carry_out.new.clusters.items (c.loop-number.number + 1))) (sym items)
           (under_way-more c.args.terms _ (standing c.loop-number.course c.loop-number.clusters.items c.loop-number.number) c.loop-number.out.items c.in-Some.sent
           (standing c.carry_out.new.course c.carry_out.new.clusters.items (c.loop-number.number + 1))
-          c.loop-number.invariant.0 below (sym c.choose.ensures ∙ c.in-Some.is) c.loop-number.invariant.1.small c.carry_out.ensures.after c.carry_out.ensures.stands),
+          c.loop-number.invariant.0 below (sym c.choose.ensures ∙ c.in-Some.is) c.carry_out.ensures.after c.carry_out.ensures.stands c.carry_out.ensures.reached),
       c.carry_out.ensures.fit,
       c.loop-number.invariant.2,
       omega (arith, longer, c.loop-number.invariant.3),

@@ -3,6 +3,7 @@ pub mod Course
 pub mod Records
 pub mod Ruled
 pub mod Afters
+pub mod Sends
 pub mod Force
 pub mod State
 pub mod Inside

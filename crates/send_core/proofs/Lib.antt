@@ -1,7 +1,6 @@
-pub mod PaceLoop
 pub mod Pushes
 pub mod Legality
-pub mod Standing
 pub mod PlacesFound
+pub mod Recorded
 pub mod StepsMade
-pub mod Stamped
+pub mod PaceMade

@@ -1,5 +1,10 @@
 pub mod History
+pub mod Settings
+pub mod Reports
+pub mod Estimates
+pub mod Levels
 pub mod Reply
+pub mod Recording
 pub mod Wires
 pub mod Places
 pub mod Settled

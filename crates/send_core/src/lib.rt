@@ -3,18 +3,14 @@
 #![tactic(auto)]
 
 mod call;
+mod checks;
 mod copies;
 mod journal;
-mod pacing;
 mod parts;
-mod sender;
+mod recording;
 mod settings;
-mod stamping;
 
 pub use call::{Answer, ApplyFault, Call, Cause, Change, Entry, Rates, Reply};
 pub use journal::Journal;
-pub use sender::Sender;
 pub use settings::START_RATE;
 
-#[cfg(test)]
-mod tests;

@@ -1,8 +1,12 @@
 //! The settings of a sender.
 
-ghost use Rattle.std.specs.Prelude.{◌≡◌};
+ghost use Rattle.std.specs.Prelude.{◌≡◌, ◌≤◌};
+ghost use Rattle.send_core.specs.Estimates.{pacing_of};
+ghost use Rattle.send_core.specs.Settings.{start_settings, settings_after};
 
-use gcc_units::{Bounds, Rate};
+use crate::call::Change;
+use gcc_units::{Bounds, GREATEST_RATE, Rate};
+use pacer::{START_PADDING, START_WINDOW};
 
 /// What both estimates begin with, in bit/s.
 pub const START_RATE: Rate = 300_000;
@@ -47,4 +51,50 @@ pub struct Settings {
     /// Whether audio is held back by the media level.
     pub paced_audio: bool,
     pub extension_id: u64,
+}
+
+/// A percentage of a target rate, at most `GREATEST_RATE`.
+pub fn pacing_of(target: Rate, percent: u64) -> Rate
+    requires target { target ≤ GREATEST_RATE }
+    requires percent { percent ≤ GREATEST_PERCENT }
+    ensures value { result ≡ pacing_of target percent }
+    ensures bound { result ≤ GREATEST_RATE }
+{
+    GREATEST_RATE.min(target * percent / 100)
+}
+
+impl Settings {
+    /// The settings that a sender begins with.
+    pub fn start() -> Settings
+        ensures { result ≡ start_settings }
+    {
+        Settings {
+            bounds: Bounds {
+                min: START_MIN,
+                max: START_MAX,
+            },
+            pacing_percent: START_PERCENT,
+            window: START_WINDOW,
+            padding_rate: START_PADDING,
+            paced_audio: false,
+            extension_id: START_EXTENSION,
+        }
+    }
+
+    /// The settings after a change: what it names is what it gives, all else stays.
+    pub fn after(&self, change: &Change) -> Settings
+        ensures { result ≡ settings_after self.now change.now }
+    {
+        Settings {
+            bounds: Bounds {
+                min: change.min.unwrap_or(self.bounds.min),
+                max: change.max.unwrap_or(self.bounds.max),
+            },
+            pacing_percent: change.pacing_percent.unwrap_or(self.pacing_percent),
+            window: change.window.unwrap_or(self.window),
+            padding_rate: change.padding_rate.unwrap_or(self.padding_rate),
+            paced_audio: change.paced_audio.unwrap_or(self.paced_audio),
+            extension_id: change.extension_id.unwrap_or(self.extension_id),
+        }
+    }
 }

@@ -1,51 +1,12 @@
--- The account of packets and reports, event by event.
-use Rattle.std.proofs.Common.{◌≡◌, ℕ, ℤ, pos, negsuc, neg_ℤ, ◌+◌, ◌*◌, ◌≤ℤ◌, ◌<ℤ◌, ◌+ℤ◌, ◌-ℤ◌, List, [], ◌∷◌, ◌++◌, length, ap, sym, ◌∙◌, arith, append_assoc, append-nil, to_z, of_z, w64}
+-- How far the references of an account may be from 0.
+use Rattle.std.proofs.Common.{◌≡◌, ℕ, ℤ, pos, negsuc, neg_ℤ, ◌+◌, ◌*◌, ◌≤ℤ◌, ◌<ℤ◌, ◌+ℤ◌, ◌-ℤ◌, List, [], ◌∷◌, length, arith, to_z, of_z, w64}
 use Rattle.std.specs.List.{fold}
 use Rattle.std.specs.Int.{int_rem_euclid}
-use Rattle.std.proofs.lemmas.List.Sums.{fold-append}
-use Rattle.std.proofs.lemmas.Grind.{flat_map-append}
 use Rattle.std.proofs.lemmas.Int.{ints}
-use Rattle.twcc_report.specs.Spelling.{Feedback}
 use Rattle.gcc_units.specs.Unwrapping.{unwrapped, IsNearest}
-use Rattle.sent_history.specs.declared.slot.Outgoing.{Outgoing}
-use Rattle.sent_history.specs.Events.{Event, added, reported, packet_in, report_in, packets, reports, last_sent_at}
+use Rattle.sent_history.specs.Events.{Event, added, reported, reports}
 use Rattle.sent_history.specs.Crediting.{Account, start, after, account}
 use Rattle.sent_history.specs.Kept.{Kept, TakesReport}
-
-pub account-push : (events : List Event) (e : Event) → account (events ++ e ∷ []) ≡ after (account events) e
-unfolding account
-account-push events e = fold-append after start events (e ∷ [])
-
-packets_from : (a : Account) (events : List Event) → (fold after a events).packets ≡ a.packets ++ packets events
-packets_from a [] = sym (append-nil a.packets)
-packets_from a (added p ∷ events) = packets_from (after a (added p)) events ∙ append_assoc a.packets (p ∷ []) (packets events)
-packets_from a (reported r ∷ events) = packets_from (after a (reported r)) events
-
--- the account's packets are those that were added
-pub account_packets : (events : List Event) → (account events).packets ≡ packets events
-unfolding account
-account_packets events = packets_from start events
-
--- ---- one event more
-
-pub added_more : (events : List Event) (p : Outgoing) → packets (events ++ added p ∷ []) ≡ packets events ++ p ∷ []
-added_more events p = flat_map-append packet_in events (added p ∷ [])
-
-pub added_reports : (events : List Event) (p : Outgoing) → reports (events ++ added p ∷ []) ≡ reports events
-added_reports events p = flat_map-append report_in events (added p ∷ []) ∙ append-nil (reports events)
-
-pub added_last : (events : List Event) (p : Outgoing) → last_sent_at (events ++ added p ∷ []) ≡ p.sent_at
-added_last events p =
-    let with : ℕ → Outgoing → ℕ = λ (moment : ℕ) (q : Outgoing). q.sent_at in
-    ap (λ (ps : List Outgoing). fold with 0 ps) (added_more events p) ∙ fold-append with 0 (packets events) (p ∷ [])
-
-pub reported_packets : (events : List Event) (r : Feedback) → packets (events ++ reported r ∷ []) ≡ packets events
-reported_packets events r = flat_map-append packet_in events (reported r ∷ []) ∙ append-nil (packets events)
-
-pub reported_more : (events : List Event) (r : Feedback) → reports (events ++ reported r ∷ []) ≡ reports events ++ r ∷ []
-reported_more events r = flat_map-append report_in events (reported r ∷ [])
-
--- ---- how far the reference may be from 0
 
 pub record IsNear (n : ℕ) (z : ℤ) : Type 0 where
   pub low : neg_ℤ (pos n) ≤ℤ z

@@ -1,8 +1,7 @@
 -- What the kept slots say of the account.
-use Rattle.std.proofs.Common.{◌≡◌, ℕ, ℤ, zero, suc, ◌+◌, ◌-◌, ◌%◌, ◌<◌, ◌≤◌, ◌+ℤ◌, ◌*ℤ◌, Bool, true, false, not, ◌||◌, cond, inl, inr, pos, List, [], ◌∷◌, ◌++◌, All, length, drop, map, get_or, slice_index_or, Option, Some, None, refl, ap, sym, ◌∙◌, subst, arith, length-append, length-drop}
+use Rattle.std.proofs.Common.{◌≡◌, ℕ, ℤ, zero, suc, ◌+◌, ◌-◌, ◌%◌, ◌<◌, ◌≤◌, ◌+ℤ◌, ◌*ℤ◌, Bool, true, false, not, ◌||◌, cond, inl, inr, pos, List, [], ◌∷◌, ◌++◌, length, drop, map, get_or, slice_index_or, Option, Some, None, refl, ap, sym, ◌∙◌, subst, arith, length-append, length-drop}
 use Rattle.std.specs.List.{fold, slice_get, enumerate_from, range_with_len}
 use Rattle.std.proofs.lemmas.Bool.{cases_lt, lt-ltb, le-ltb, lt-leb, le-leb}
-use Rattle.std.proofs.lemmas.List.Elements.{All-nil, All-cons, All-append}
 use Rattle.std.proofs.lemmas.Option.{slice_get_cases, same_Some}
 use Rattle.std.proofs.lemmas.List.{get_or_append_left, get_or-drop}
 use Rattle.std.proofs.Math.Seq.{get_or-append_seam}
@@ -10,13 +9,13 @@ use Rattle.gcc_units.specs.Unwrapping.{named_number, unwrapped}
 use Rattle.gcc_units.specs.declared.limits.TheConstants.{KEPT_PACKETS}
 use Rattle.twcc_report.specs.Spelling.{Feedback}
 use Rattle.twcc_report.specs.declared.report.Status.{Status}
-use Rattle.twcc_report.specs.declared.report.Status.TheVariants.{NotReceived, Small, Large}
 use Rattle.sent_history.specs.declared.slot.Outgoing.{Outgoing}
 use Rattle.sent_history.specs.declared.slot.Slot.{Slot}
 use Rattle.sent_history.specs.declared.slot.Verdict.{Verdict}
 use Rattle.sent_history.specs.Events.{Event, added, reported}
-use Rattle.sent_history.specs.Crediting.{Account, start, has, delta_of, verdict_on, verdict_if, verdict, kept_packet, verdict_at, verdicts, credit_for, credit_in, IsOfPacket, number_at, arrival, credits_in, missing_numbers, after, account, is_outstanding}
+use Rattle.sent_history.specs.Crediting.{Account, start, has, delta_of, verdict_on, verdict_if, verdict, kept_packet, verdict_at, verdicts, number_at, arrival, credits_in, missing_numbers, after, account, is_outstanding}
 use Rattle.sent_history.specs.Judging.{kept_slot, slot_verdict_if, slot_verdict, running, all_marks}
+use Rattle.sent_history.specs.Laws.{kept_packet-near, kept_packet-past}
 use Rattle.sent_history.specs.Kept.{Kept, IsSlot, Keeps}
 use Rattle.sent_history.proofs.Numbers.{numbers, credits_it, misses_it, has_more, credits_more, misses_more, others, named_below}
 use Rattle.sent_history.proofs.Marks.{packet_law, credit_law, miss_law}
@@ -65,14 +64,6 @@ account_is_sound events = sound_from start events (record { credited = λ n past
 
 -- ---- which packets are kept
 
-there : (sent : List Outgoing) (n : ℕ) → length sent ≤ n + KEPT_PACKETS → kept_packet sent n ≡ slice_get sent n
-unfolding kept_packet
-there sent n le = rw (le-ltb (n + KEPT_PACKETS) (length sent) le) refl
-
-gone : (sent : List Outgoing) (n : ℕ) → n + KEPT_PACKETS < length sent → kept_packet sent n ≡ None
-unfolding kept_packet
-gone sent n lt = rw (lt-ltb (n + KEPT_PACKETS) (length sent) lt) refl
-
 slot_there : (slots : List Slot) (sent n : ℕ) → sent - length slots ≤ n → kept_slot slots sent n ≡ slice_get slots (n - (sent - length slots))
 unfolding kept_slot
 slot_there slots sent n le = rw (le-ltb n (sent - length slots) le) refl
@@ -80,43 +71,6 @@ slot_there slots sent n le = rw (le-ltb n (sent - length slots) le) refl
 slot_gone : (slots : List Slot) (sent n : ℕ) → n < sent - length slots → kept_slot slots sent n ≡ None
 unfolding kept_slot
 slot_gone slots sent n lt = rw (lt-ltb n (sent - length slots) lt) refl
-
--- ---- each credit tells of a packet
-
-kept_some : (sent : List Outgoing) (n : ℕ) (p : Outgoing) → kept_packet sent n ≡ Some p → slice_get sent n ≡ Some p
-kept_some sent n p e = elim (cases_lt (n + KEPT_PACKETS) (length sent)) [
-  | inl lt ↦ let none : kept_packet sent n ≡ None = gone sent n lt in cc
-  | inr le ↦ sym (there sent n le) ∙ e
-]
-
-of_packet_on : (sent : List Outgoing) (c s : Bool) (n : ℕ) (p : Outgoing) (status : Status) (arrived : ℤ) → slice_get sent n ≡ Some p
-    → All (IsOfPacket sent) (credit_in (verdict_on c s n p status arrived))
-unfolding verdict_on
-of_packet_on sent true s n p status arrived e = All-nil (IsOfPacket sent)
-of_packet_on sent false true n p NotReceived arrived e = All-nil (IsOfPacket sent)
-of_packet_on sent false false n p NotReceived arrived e = All-nil (IsOfPacket sent)
-of_packet_on sent false s n p (Small d) arrived e = All-cons (IsOfPacket sent) (credit_for n p arrived) [] e (All-nil (IsOfPacket sent))
-of_packet_on sent false s n p (Large d) arrived e = All-cons (IsOfPacket sent) (credit_for n p arrived) [] e (All-nil (IsOfPacket sent))
-
-of_packet_if : (a : Account) (n : ℕ) (status : Status) (arrived : ℤ) (o : Option Outgoing) → kept_packet a.packets n ≡ o
-    → All (IsOfPacket a.packets) (credit_in (verdict_if a n status arrived o))
-of_packet_if a n status arrived None e = All-nil (IsOfPacket a.packets)
-of_packet_if a n status arrived (Some p) e = of_packet_on a.packets (has a.credited n) (has a.missed n) n p status arrived (kept_some a.packets n p e)
-
-of_packet : (a : Account) (status : Status) (o : Option ℕ) (arrived : ℤ) → All (IsOfPacket a.packets) (credit_in (verdict a status o arrived))
-unfolding verdict
-of_packet a status None arrived = All-nil (IsOfPacket a.packets)
-of_packet a status (Some n) arrived = of_packet_if a n status arrived (kept_packet a.packets n) refl
-
-of_packets_at : (a : Account) (report : Feedback) (places : List (ℕ × Status)) → All (IsOfPacket a.packets) (credits_in (map (verdict_at a report) places))
-of_packets_at a report [] = All-nil (IsOfPacket a.packets)
-of_packets_at a report (placed ∷ places) =
-    All-append (IsOfPacket a.packets) (credit_in (verdict_at a report placed)) (credits_in (map (verdict_at a report) places))
-    (of_packet a placed.1 (number_at a report.base placed.0) (arrival (unwrapped a.reference report.reference) report.statuses placed.0))
-    (of_packets_at a report places)
-
-pub of_packets : (a : Account) (report : Feedback) → All (IsOfPacket a.packets) (credits_in (verdicts a report))
-of_packets a report = of_packets_at a report (enumerate_from 0 report.statuses)
 
 -- ---- the same verdicts
 
@@ -135,7 +89,7 @@ of_slot a n s status arrived slot =
 same_if : (h : Kept) (a : Account) (n : ℕ) (status : Status) (arrived : ℤ) → Keeps h a → n < length a.packets
     → slot_verdict_if n status arrived (kept_slot h.slots h.sent n) ≡ verdict_if a n status arrived (kept_packet a.packets n)
 same_if h a n status arrived keep lt = elim (cases_lt n (h.sent - length h.slots)) [
-  | inl before ↦ rw (slot_gone h.slots h.sent n before, gone a.packets n (omega (arith, keep.sent, keep.window))) refl
+  | inl before ↦ rw (slot_gone h.slots h.sent n before, kept_packet-past a.packets n (omega (arith, keep.sent, keep.window))) refl
   | inr from ↦ let k : ℕ = n - (h.sent - length h.slots) in
       elim ((slice_get_cases h.slots k).1) [
         | inl found ↦ let s : Slot = found.0 in
@@ -143,7 +97,7 @@ same_if h a n status arrived keep lt = elim (cases_lt n (h.sent - length h.slots
             let at_place : IsSlot a (length a.packets - length h.slots + k) (slice_index_or h.slots k s) = keep.slots k s found.1 in
             let at_n : IsSlot a n (slice_index_or h.slots k s) = subst (λ (m : ℕ). IsSlot a m (slice_index_or h.slots k s)) place at_place in
             let slot : IsSlot a n s = subst (λ (t : Slot). IsSlot a n t) found.3 at_n in
-            rw (slot_there h.slots h.sent n from, found.2, there a.packets n (omega (arith, keep.sent, keep.window)), slot.packet) (of_slot a n s status arrived slot)
+            rw (slot_there h.slots h.sent n from, found.2, kept_packet-near a.packets n (omega (arith, keep.sent, keep.window)), slot.packet) (of_slot a n s status arrived slot)
         | inr past ↦ absurd (omega (arith, keep.sent, keep.window, past.0))
       ]
 ]
@@ -268,7 +222,7 @@ reported_slot a report n s small near slot =
     let arrived : ℤ = pos 256 *ℤ unwrapped a.reference report.reference in
     let vs : List Verdict = running (verdict a) sent report.base arrived report.statuses in
     let e : verdicts a report ≡ vs = by_running a report small in
-    let kept : kept_packet a.packets n ≡ Some s.packet = there a.packets n near ∙ slot.packet in
+    let kept : kept_packet a.packets n ≡ Some s.packet = kept_packet-near a.packets n near ∙ slot.packet in
     let t : Slot = all_marks sent report.base report.statuses n s in
     let credit : t.credited ≡ (s.credited || has (numbers (credits_in vs)) n) =
     credit_law a sent report.base arrived report.statuses n s.packet s kept (λ h. slot.credited ∙ h) in

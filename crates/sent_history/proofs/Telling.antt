@@ -1,5 +1,5 @@
 -- The answer that tells verdicts, one verdict more.
-use Rattle.std.proofs.Common.{◌≡◌, ℕ, ◌+◌, ◌≤◌, cond, List, [], ◌∷◌, ◌++◌, length, refl, ap, sym, ◌∙◌, arith, length-append, append_assoc, append-nil}
+use Rattle.std.proofs.Common.{◌≡◌, ℕ, ◌+◌, ◌≤◌, cond, List, [], ◌∷◌, ◌++◌, length, refl, ap, ◌∙◌, arith, length-append, append-nil}
 use Rattle.std.specs.List.{flat_map, count_by}
 use Rattle.std.proofs.lemmas.List.Sums.{sum_by-append, count_by-le-length}
 use Rattle.std.proofs.lemmas.Grind.{flat_map-append}
@@ -7,7 +7,7 @@ use Rattle.gcc_units.specs.Listed.{bare}
 use Rattle.gcc_units.specs.declared.shared_types.Credit.{Credit}
 use Rattle.gcc_units.specs.declared.shared_types.Judged.{Judged}
 use Rattle.sent_history.specs.declared.slot.Verdict.{Verdict}
-use Rattle.sent_history.specs.declared.slot.Verdict.TheVariants.{Received, Missing, Unknown, Repeated}
+use Rattle.sent_history.specs.Laws.{verdicts_counted}
 use Rattle.sent_history.specs.Crediting.{credit_in, missing_in, is_unknown, is_repeated, credits_in, told}
 
 -- the answer with one verdict more
@@ -34,13 +34,6 @@ told_more vs v =
     rw (credits, missing, unknown, repeated) refl
 
 -- no more than one for each verdict
-missing_few : (vs : List Verdict) → length (flat_map missing_in vs) ≤ length vs
-missing_few [] = omega arith
-missing_few (Received c ∷ vs) = omega (arith, missing_few vs)
-missing_few (Missing n ∷ vs) = omega (arith, missing_few vs)
-missing_few (Unknown ∷ vs) = omega (arith, missing_few vs)
-missing_few (Repeated ∷ vs) = omega (arith, missing_few vs)
-
 pub record IsFew (j : Judged) (n : ℕ) : Type 0 where
   pub missing : j.missing ≤ n
   pub unknown : j.unknown ≤ n
@@ -48,26 +41,13 @@ pub record IsFew (j : Judged) (n : ℕ) : Type 0 where
 
 pub told_few : (j : Judged) (vs : List Verdict) → j ≡ told vs → IsFew j (length vs)
 told_few j vs e =
-    rw e (record { missing = missing_few vs; unknown = count_by-le-length is_unknown vs; repeated = count_by-le-length is_repeated vs })
+    rw e (record { missing = omega (arith, verdicts_counted vs); unknown = count_by-le-length is_unknown vs; repeated = count_by-le-length is_repeated vs })
 
 -- ---- all together
 
 abbrev pub total : Judged → ℕ
 total j = length j.received.items + j.missing + j.unknown + j.repeated
 
-one_more : (j : Judged) (v : Verdict) → total (with_verdict j v) ≡ total j + 1
-one_more j (Received c) = omega (arith, length-append j.received.items (c ∷ []))
-one_more j (Missing n) = omega (arith, ap length (append-nil j.received.items))
-one_more j Unknown = omega (arith, ap length (append-nil j.received.items))
-one_more j Repeated = omega (arith, ap length (append-nil j.received.items))
-
-told_all : (before vs : List Verdict) → total (told (before ++ vs)) ≡ total (told before) + length vs
-told_all before [] = ap (λ (xs : List Verdict). total (told xs)) (append-nil before) ∙ omega arith
-told_all before (v ∷ vs) =
-    let tail : total (told (before ++ v ∷ [] ++ vs)) ≡ total (told (before ++ v ∷ [])) + length vs = told_all (before ++ v ∷ []) vs in
-    let one : total (told (before ++ v ∷ [])) ≡ total (told before) + 1 = ap total (told_more before v) ∙ one_more (told before) v in
-    ap (λ (xs : List Verdict). total (told xs)) (sym (append_assoc before (v ∷ []) vs)) ∙ omega (arith, tail, one)
-
 -- each verdict is counted once
 pub told_total : (vs : List Verdict) → total (told vs) ≡ length vs
-told_total vs = told_all [] vs ∙ omega arith
+told_total vs = verdicts_counted vs

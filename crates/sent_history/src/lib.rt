@@ -8,9 +8,13 @@
 
 mod history;
 mod judging;
+mod laws;
 mod slot;
 
 pub use history::History;
+pub use laws::{
+    credits_are_exact, no_number_is_credited_twice, packets_balance, statuses_are_judged_once,
+};
 pub use slot::Outgoing;
 
 /// The most reports that a history judges: 2^20.

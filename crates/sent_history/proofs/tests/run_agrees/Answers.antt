@@ -1,7 +1,7 @@
 use Rattle.std.proofs.Common.{◌+◌, [], ◌∷◌, ◌++◌, List, length, ap, ◌∙◌, arith, length-append}
 use Rattle.twcc_report.specs.Spelling.{Feedback, view}
 use Rattle.sent_history.specs.Events.{Event, reported, reports}
-use Rattle.sent_history.proofs.Accounts.{reported_packets, reported_more}
+use Rattle.sent_history.specs.Pushes.{reported_packets, reported_more}
 use Rattle.sent_history.proofs.tests.run_agrees.Goals as goal
 
 pub loop-row-preserved : goal.loop-row-preserved

@@ -2,7 +2,7 @@ use Rattle.std.proofs.Common.{◌≡◌, length, ap, sym, ◌∙◌, subst, arit
 use Rattle.sent_history.specs.Kept.{Kept, Keeps}
 use Rattle.sent_history.specs.Crediting.{account}
 use Rattle.sent_history.specs.Events.{added}
-use Rattle.sent_history.proofs.Accounts.{account-push, account_packets}
+use Rattle.sent_history.specs.Pushes.{account-push, account_packets}
 use Rattle.sent_history.proofs.Slots.{keeps_added, account_is_sound}
 use Rattle.sent_history.proofs.history.History.add.Goals as goal
 

@@ -1,4 +1,4 @@
-use Rattle.std.proofs.Common.{◌≡◌, ℕ, pos, ◌+◌, ◌-◌, ◌<◌, ◌*ℤ◌, List, All, length, slice_index_or, ap, sym, ◌∙◌, subst, arith, to_z, of_z, w32, w64}
+use Rattle.std.proofs.Common.{◌≡◌, ℕ, pos, ◌+◌, ◌-◌, ◌<◌, ◌*ℤ◌, List, length, slice_index_or, ap, sym, ◌∙◌, subst, arith, to_z, of_z, w32, w64}
 use Rattle.std.specs.List.{enumerate_from}
 use Rattle.std.specs.Vec.{with_items}
 use Rattle.std.proofs.lemmas.Int.{ints}
@@ -7,13 +7,14 @@ use Rattle.std.proofs.lemmas.List.FromFn.{length-enumerate_from}
 use Rattle.gcc_units.specs.Unwrapping.{unwrapped}
 use Rattle.twcc_report.specs.Spelling.{Feedback, view}
 use Rattle.sent_history.specs.declared.slot.Slot.{Slot}
-use Rattle.sent_history.specs.declared.slot.Outgoing.{Outgoing}
 use Rattle.sent_history.specs.Judging.{all_marks}
 use Rattle.sent_history.specs.Kept.{Kept, Keeps}
-use Rattle.sent_history.specs.Events.{reported, packets}
-use Rattle.sent_history.specs.Crediting.{account, told, judged, verdict_at, credits_in, IsOfPacket}
-use Rattle.sent_history.proofs.Accounts.{IsNear, account-push, account_packets, last_near, next_near}
-use Rattle.sent_history.proofs.Slots.{keeps_reported, of_packets, marks_of, judged_are}
+use Rattle.sent_history.specs.Events.{reported}
+use Rattle.sent_history.specs.Crediting.{account, told, judged, verdict_at}
+use Rattle.sent_history.specs.Laws.{judged_of_packets}
+use Rattle.sent_history.specs.Pushes.{account-push}
+use Rattle.sent_history.proofs.Accounts.{IsNear, last_near, next_near}
+use Rattle.sent_history.proofs.Slots.{keeps_reported, marks_of, judged_are}
 use Rattle.sent_history.proofs.Telling.{total, told_total}
 use Rattle.sent_history.proofs.history.History.credit.Goals as goal
 
@@ -99,9 +100,4 @@ returns-clause-sum c =
     ∙ length-enumerate_from 0 report.statuses
 
 pub returns-clause-packets : goal.returns-clause-packets
-returns-clause-packets c = λ events stands.
-    let report : Feedback = view c.args.report.now in
-    let all : All (IsOfPacket (account events).packets) (credits_in (judged events report)) = of_packets (account events) report in
-    let said : All (IsOfPacket (packets events)) (credits_in (judged events report)) =
-    subst (λ (sent : List Outgoing). All (IsOfPacket sent) (credits_in (judged events report))) (account_packets events) all in
-    rw (returns-clause-judged c events stands) said
+returns-clause-packets c = λ events stands. rw (returns-clause-judged c events stands) (judged_of_packets events (view c.args.report.now))

@@ -3,7 +3,7 @@ use Rattle.std.specs.List.{count_by, range_with_len}
 use Rattle.sent_history.specs.declared.slot.Slot.{Slot}
 use Rattle.sent_history.specs.Kept.{Kept, Keeps}
 use Rattle.sent_history.specs.Crediting.{account, is_outstanding}
-use Rattle.sent_history.proofs.Accounts.{account_packets}
+use Rattle.sent_history.specs.Pushes.{account_packets}
 use Rattle.sent_history.proofs.Slots.{outstanding_are}
 use Rattle.sent_history.proofs.history.History.outstanding.Goals as goal
 

@@ -1,6 +1,6 @@
 use Rattle.std.proofs.Common.{length, ap, ◌∙◌}
 use Rattle.sent_history.specs.Kept.{Kept}
-use Rattle.sent_history.proofs.Accounts.{account_packets}
+use Rattle.sent_history.specs.Pushes.{account_packets}
 use Rattle.sent_history.proofs.history.History.sent.Goals as goal
 
 pub returns : goal.returns

@@ -1,8 +1,6 @@
 -- Few deeds leave small sums.
-use Rattle.std.proofs.Common.{◌≡◌, ℕ, suc, zero, ◌+◌, ◌*◌, ◌<◌, ◌≤◌, ◌==◌, Bool, true, false, if◌then◌else◌, List, [], ◌∷◌, ◌++◌, length, sum, sum_by, count_by, All, slice_get, Option, Some, None, refl, sym, ap, subst, ◌∙◌, zero-add, arith}
-use Rattle.std.specs.List.{list_any}
+use Rattle.std.proofs.Common.{◌≡◌, ℕ, suc, zero, ◌+◌, ◌*◌, ◌≤◌, ◌==◌, Bool, true, false, if◌then◌else◌, List, [], ◌∷◌, ◌++◌, length, sum, sum_by, count_by, All, slice_get, Some, sym, ap, subst, ◌∙◌, zero-add, arith}
 use Rattle.std.specs.Option.{ForSome}
-use Rattle.std.proofs.lemmas.List.{length-append}
 use Rattle.std.proofs.lemmas.List.Elements.{All-head, All-tail, All-push}
 use Rattle.std.proofs.lemmas.List.Sums.{sum_by-append, sum_by-cons}
 use Rattle.gcc_units.specs.declared.shared_types.Credit.{Credit}
@@ -11,7 +9,7 @@ use Rattle.probe_clusters.specs.declared.cluster.Cluster.{Cluster}
 use Rattle.probe_clusters.specs.declared.heard.Heard.{Heard}
 use Rattle.probe_clusters.specs.Heard.{heard_of}
 use Rattle.probe_clusters.specs.Cluster.{IsHeardSmall, IsSmall}
-use Rattle.probe_clusters.specs.Deeds.{Deed, Plan, Send, Note, Take, rates, size_by, sizes, names, credit_by, credits, takes, moments, cluster_of, clusters_from, clusters, StandsFor, is_send, is_note, IsSizeWithin, IsWithin, ReachedBy}
+use Rattle.probe_clusters.specs.Deeds.{Deed, Plan, Send, Note, Take, rates, size_by, sizes, names, credit_by, credits, takes, cluster_of, clusters_from, StandsFor, is_send, is_note, IsSizeWithin, IsWithin, ReachedBy}
 
 abbrev credit_bytes : List Credit → ℕ
 credit_bytes cs = sum_by (λ (c : Credit). c.size) cs

@@ -1,5 +1,5 @@
 -- What no later deed changes.
-use Rattle.std.proofs.Common.{◌≡◌, ℕ, ◌+◌, ◌*◌, ◌≤◌, ◌<◌, Bool, true, false, ◌||◌, ◌&&◌, not, if◌then◌else◌, nat_lt, List, [], ◌∷◌, ◌++◌, length, sum, refl, sym, ap, ◌∙◌, arith}
+use Rattle.std.proofs.Common.{◌≡◌, ℕ, ◌*◌, ◌≤◌, Bool, true, false, ◌||◌, if◌then◌else◌, nat_lt, List, [], ◌∷◌, ◌++◌, length, sum, refl, ap, ◌∙◌, arith}
 use Rattle.std.specs.List.{list_any}
 use Rattle.std.proofs.lemmas.List.{length-append}
 use Rattle.std.proofs.lemmas.List.Sums.{sum_by-append}
@@ -10,9 +10,9 @@ use Rattle.gcc_units.specs.declared.shared_types.Credit.{Credit}
 use Rattle.probe_clusters.specs.declared.cluster.Cluster.{Cluster}
 use Rattle.probe_clusters.specs.declared.TheConstants.{BYTE, LEAST_PACKETS, LEAST_TIME}
 use Rattle.probe_clusters.specs.Heard.{heard_of}
-use Rattle.probe_clusters.specs.Cluster.{waits, is_ready}
+use Rattle.probe_clusters.specs.Cluster.{is_ready}
 use Rattle.probe_clusters.specs.Deeds.{Deed, size_by, sizes, credits, credit_by, takes, cluster_of}
-use Rattle.probe_clusters.specs.Laws.{IsDone, TakenOnce, WaitsOnce}
+use Rattle.probe_clusters.specs.Laws.{TakenOnce, WaitsOnce}
 
 credits-first : (first : Bool) (before these later : List Credit) (more : Bool) → (first || more) ≡ true → (more ≡ true → later ≡ these)
     → (if first then [] else before ++ later) ≡ (if first then [] else before ++ these)

@@ -5,3 +5,4 @@ pub mod Bounds
 pub mod Together
 pub mod Later
 pub mod Passed
+pub mod Reports

@@ -1,5 +1,5 @@
 -- Clusters at the front that no longer wait.
-use Rattle.std.proofs.Common.{◌≡◌, ◌≢◌, ℕ, suc, zero, ◌+◌, ◌<◌, ◌≤◌, ◌==◌, Bool, true, false, not, if◌then◌else◌, nat_lt, List, [], ◌∷◌, ◌++◌, length, take, drop, length-drop, ◌-◌, count_by, position, slice_set, Option, Some, None, option_map, get_or, refl, sym, ap, ◌∙◌, zero-add, arith, get_or-set_other, get_or-set_same}
+use Rattle.std.proofs.Common.{◌≡◌, ◌≢◌, ℕ, suc, zero, ◌+◌, ◌<◌, ◌==◌, Bool, true, false, not, if◌then◌else◌, nat_lt, List, [], ◌∷◌, ◌++◌, length, take, drop, length-drop, ◌-◌, count_by, position, slice_set, Option, Some, None, option_map, get_or, refl, sym, ap, ◌∙◌, zero-add, arith, get_or-set_other, get_or-set_same}
 use Rattle.std.specs.List.{position_or_len}
 use Rattle.std.proofs.lemmas.Bool.Decides.{nat_tests}
 use Rattle.std.proofs.lemmas.List.{take_all, length-set, length_push, get_or_append_left}

@@ -1,6 +1,5 @@
 -- One cluster of a list changed, and the first place that passes a test.
-use Rattle.std.proofs.Common.{◌≡◌, ℕ, suc, zero, ◌+◌, ◌<◌, ◌≤◌, Bool, true, false, List, [], ◌∷◌, length, position, slice_get, slice_set, Option, Some, None, get_or, IsSome, if◌then◌else◌, refl, sym, ap, ◌∙◌, arith}
-use Rattle.std.specs.List.{position_or_len}
+use Rattle.std.proofs.Common.{◌≡◌, ℕ, suc, zero, ◌<◌, Bool, true, false, List, [], ◌∷◌, length, position, slice_get, slice_set, Option, Some, None, get_or, IsSome, if◌then◌else◌, refl, sym, ap, ◌∙◌, arith}
 use Rattle.std.proofs.lemmas.List.Quantifiers.{position-Some}
 use Rattle.std.proofs.lemmas.List.Sums.{fails_before_first}
 use Rattle.std.proofs.lemmas.Option.{slice_get-get_or}

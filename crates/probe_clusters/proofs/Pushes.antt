@@ -1,8 +1,8 @@
 -- What one more deed does to the clusters.
-use Rattle.std.proofs.Common.{◌≡◌, ℕ, ℤ, suc, zero, ◌+◌, ◌<◌, ◌≤◌, ◌==◌, min, max, Bool, true, false, ◌||◌, if◌then◌else◌, List, [], ◌∷◌, ◌++◌, length, sum, sum_by, fold, All, slice_get, Option, Some, None, unwrap_or, refl, sym, ap, subst, ◌∙◌, zero-add, arith, append_assoc, append-nil}
+use Rattle.std.proofs.Common.{◌≡◌, ℕ, ℤ, suc, zero, ◌+◌, ◌<◌, ◌≤◌, ◌==◌, min, max, Bool, true, false, ◌||◌, if◌then◌else◌, List, [], ◌∷◌, ◌++◌, length, sum, All, slice_get, Option, Some, None, unwrap_or, refl, sym, ap, subst, ◌∙◌, zero-add, arith, append_assoc, append-nil}
 use Rattle.std.specs.Int.{int_max}
 use Rattle.std.proofs.lemmas.List.{length_push}
-use Rattle.std.specs.List.{flat_map, list_any}
+use Rattle.std.specs.List.{list_any}
 use Rattle.std.proofs.lemmas.List.Elements.{All-push, All-head, All-tail, All-weaker}
 use Rattle.std.proofs.lemmas.List.Sums.{sum_by-append, fold-append}
 use Rattle.std.proofs.lemmas.List.Folds.{list_any-append}
@@ -10,11 +10,10 @@ use Rattle.std.proofs.lemmas.Bool.Decides.{nat_tests}
 use Rattle.gcc_units.specs.Walk.{flat_map-push}
 use Rattle.gcc_units.specs.declared.shared_types.Credit.{Credit}
 use Rattle.probe_clusters.specs.declared.cluster.Cluster.{Cluster}
-use Rattle.probe_clusters.specs.declared.heard.Heard.{Heard}
 use Rattle.probe_clusters.specs.Heard.{heard_of, heard_with, earlier_of, later_of}
 use Rattle.probe_clusters.specs.Cluster.{planned, with_packet, with_credit, with_result_taken}
-use Rattle.probe_clusters.specs.Clusters.{changed, changed_where}
-use Rattle.probe_clusters.specs.Deeds.{Deed, Plan, Send, Note, Take, rate_by, rates, size_by, sizes, moment_by, moments, names, credit_by, credits, takes, cluster_of, clusters_from, clusters, NamesBelow, NamedBelow, StandsFor}
+use Rattle.probe_clusters.specs.Clusters.{changed}
+use Rattle.probe_clusters.specs.Deeds.{Deed, Plan, Send, Note, Take, rate_by, rates, size_by, sizes, moment_by, moments, names, credit_by, credits, takes, cluster_of, clusters_from, NamesBelow, NamedBelow, StandsFor}
 
 -- ---- the sums of a cluster with one more deed
 
@@ -28,9 +27,16 @@ first-push (y ∷ xs) x = refl
 heard_of-push : (cs : List Credit) (c : Credit) → heard_of (cs ++ c ∷ []) ≡ Some (heard_with (heard_of cs) c)
 heard_of-push [] c = rw zero-add refl
 heard_of-push (d ∷ cs) c =
-    rw (length_push (d ∷ cs) c, sum_by-append (λ (x : Credit). x.size) (d ∷ cs) (c ∷ []), fold-append (λ (m : ℕ) (x : Credit). min m x.sent_at) d.sent_at cs (c ∷ []),
-    fold-append (λ (m : ℕ) (x : Credit). max m x.sent_at) d.sent_at cs (c ∷ []), fold-append (λ (a : ℤ) (x : Credit). int_max a x.arrival) d.arrival cs (c ∷ []),
-    fold-append earlier_of d cs (c ∷ []), fold-append later_of d cs (c ∷ []), zero-add c.size) refl
+    rw (
+      length_push (d ∷ cs) c,
+      sum_by-append (λ (x : Credit). x.size) (d ∷ cs) (c ∷ []),
+      fold-append (λ (m : ℕ) (x : Credit). min m x.sent_at) d.sent_at cs (c ∷ []),
+      fold-append (λ (m : ℕ) (x : Credit). max m x.sent_at) d.sent_at cs (c ∷ []),
+      fold-append (λ (a : ℤ) (x : Credit). int_max a x.arrival) d.arrival cs (c ∷ []),
+      fold-append earlier_of d cs (c ∷ []),
+      fold-append later_of d cs (c ∷ []),
+      zero-add c.size,
+    ) refl
 
 or_false : (b : Bool) → (b || false) ≡ b
 or_false true = refl
@@ -61,12 +67,12 @@ made rate sizes moments credits taken = record {
   bytes = sum sizes;
   first_sent = slice_get moments 0;
   heard = heard_of credits;
-  taken = taken
+  taken = taken;
 }
 
 spread : (ds : List Deed) (d : Deed) (k rate : ℕ)
     → cluster_of (ds ++ d ∷ []) k rate ≡ made rate (sizes k ds ++ size_by k d) (moments k ds ++ moment_by k d)
-        (credits k ds ++ (if list_any (takes k) ds || takes k d then [] else credit_by k d)) (list_any (takes k) ds || takes k d)
+    (credits k ds ++ (if list_any (takes k) ds || takes k d then [] else credit_by k d)) (list_any (takes k) ds || takes k d)
 spread ds d k rate = rw (flat_map-push (size_by k) ds d, flat_map-push (moment_by k) ds d, credits-push k ds d, list_any-push (takes k) ds d) refl
 
 made-same : (rate : ℕ) (sizes moments : List ℕ) (credits : List Credit) (taken : Bool)
@@ -206,8 +212,8 @@ stands-noted cs ds credit id is l h =
 pub stands-unnoted : (cs : List Cluster) (ds : List Deed) (credit : Credit) → credit.cluster ≡ None → StandsFor cs ds → StandsFor cs (ds ++ Note credit ∷ [])
 stands-unnoted cs ds credit is h = record {
   are = h.are ∙ sym (clusters-alike ds (ds ++ Note credit ∷ [])
-    (λ k rate. noted-at ds credit k rate ∙ ap (λ (o : Option ℕ). if names k o then with_credit credit (cluster_of ds k rate) else cluster_of ds k rate) is) 0 (rates ds))
-    ∙ ap (clusters_from (ds ++ Note credit ∷ []) 0) (sym (rates-same ds (Note credit) refl));
+      (λ k rate. noted-at ds credit k rate ∙ ap (λ (o : Option ℕ). if names k o then with_credit credit (cluster_of ds k rate) else cluster_of ds k rate) is) 0 (rates ds))
+      ∙ ap (clusters_from (ds ++ Note credit ∷ []) 0) (sym (rates-same ds (Note credit) refl));
   known = known-push ds (Note credit) refl h.known (subst (NamedBelow (length (rates ds))) (sym is) tt);
 }
 
@@ -265,15 +271,15 @@ stands-planned cs ds rate h =
     let es : List Deed = ds ++ Plan rate ∷ [] in
     let more : rates es ≡ rates ds ++ rate ∷ [] = flat_map-push rate_by ds (Plan rate) in
     let new : cluster_of es (0 + length (rates ds)) rate ≡ planned rate =
-        planned-at ds rate (0 + length (rates ds)) rate ∙ ap (λ (k : ℕ). cluster_of ds k rate) (zero-add (length (rates ds)))
-        ∙ cluster_of-unnamed ds (length (rates ds)) rate (unnamed (length (rates ds)) ds h.known) in
+    planned-at ds rate (0 + length (rates ds)) rate ∙ ap (λ (k : ℕ). cluster_of ds k rate) (zero-add (length (rates ds)))
+    ∙ cluster_of-unnamed ds (length (rates ds)) rate (unnamed (length (rates ds)) ds h.known) in
     let longer : length (rates ds) ≤ length (rates es) = omega (arith, ap (length {A = ℕ}) more, length_push (rates ds) rate) in
     record {
       are = ap (λ (bs : List Cluster). bs ++ planned rate ∷ []) (h.are ∙ sym (clusters-alike ds es (planned-at ds rate) 0 (rates ds)))
-        ∙ ap (λ (c : Cluster). clusters_from es 0 (rates ds) ++ c ∷ []) (sym new)
-        ∙ sym (clusters-append es 0 (rates ds) rate) ∙ ap (clusters_from es 0) (sym more);
+          ∙ ap (λ (c : Cluster). clusters_from es 0 (rates ds) ++ c ∷ []) (sym new)
+          ∙ sym (clusters-append es 0 (rates ds) rate) ∙ ap (clusters_from es 0) (sym more);
       known = All-push (NamesBelow (length (rates es))) ds (Plan rate)
-        (All-weaker (NamesBelow (length (rates ds))) (NamesBelow (length (rates es))) (NamesBelow-more (length (rates ds)) (length (rates es)) longer) ds h.known) tt;
+          (All-weaker (NamesBelow (length (rates ds))) (NamesBelow (length (rates es))) (NamesBelow-more (length (rates ds)) (length (rates es)) longer) ds h.known) tt;
     }
 
 -- no deed leaves no cluster

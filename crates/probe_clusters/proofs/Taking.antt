@@ -1,10 +1,10 @@
 -- Outcomes, taken one after another.
-use Rattle.std.proofs.Common.{◌≡◌, ℕ, suc, zero, ◌+◌, ◌<◌, Bool, true, false, if◌then◌else◌, List, [], ◌∷◌, ◌++◌, length, map, position, slice_get, Option, Some, None, get_or, refl, sym, ap, ◌∙◌, option_map, arith}
+use Rattle.std.proofs.Common.{◌≡◌, ℕ, suc, zero, ◌+◌, ◌<◌, Bool, true, false, if◌then◌else◌, List, [], ◌∷◌, ◌++◌, length, position, slice_get, Option, Some, None, get_or, refl, sym, ap, ◌∙◌, option_map, arith}
 use Rattle.std.proofs.lemmas.Option.{get_or_from_slice_get}
 use Rattle.probe_clusters.specs.declared.cluster.Cluster.{Cluster}
 use Rattle.probe_clusters.specs.declared.probes.Outcome.{Outcome}
 use Rattle.probe_clusters.specs.Cluster.{is_ready, with_result_taken}
-use Rattle.probe_clusters.specs.Clusters.{changed, changed_where, ready_at, outcome, outcomes_from, outcomes, after_outcomes, ready, after_ready, listed}
+use Rattle.probe_clusters.specs.Clusters.{changed, changed_where, ready_at, outcome, outcomes_from, outcomes, after_outcomes, ready, after_ready}
 use Rattle.probe_clusters.proofs.Places.{IsFirst, first_found, none_found}
 
 head_taken : (b : Bool) (o : Outcome) (os : List Outcome) → b ≡ true → (if b then o ∷ [] else []) ++ os ≡ o ∷ os
@@ -76,7 +76,7 @@ took cs id c place at =
       value = ap (ready_at cs) place ∙ ap (option_map (outcome id)) at;
       after = ap (λ (o : Option ℕ). changed_where with_result_taken o cs) place;
       first = outcomes-changed 0 cs id c at passes one.earlier
-        ∙ ap (λ (o : Outcome). o ∷ outcomes (changed with_result_taken id cs)) (outcome-same (0 + id) id c c (omega arith) refl);
+          ∙ ap (λ (o : Outcome). o ∷ outcomes (changed with_result_taken id cs)) (outcome-same (0 + id) id c c (omega arith) refl);
       end = after_outcomes-changed cs id c at passes;
     }
 

@@ -1,9 +1,8 @@
 -- The credits of a cluster are kept by their sums, and by their least and greatest.
-use Rattle.std.proofs.Common.{◌≡◌, ◌⊎◌, inl, inr, ℕ, ℤ, suc, zero, ◌+◌, ◌≤◌, ◌<◌, ◌≤ℤ◌, min, max, Bool, true, false, if◌then◌else◌, nat_lt, int_lt, ◌||◌, ◌&&◌, List, [], ◌∷◌, ◌++◌, length, fold, sum_by, All, Option, Some, refl, sym, ap, subst, ◌∙◌, ⊎_elim, arith}
+use Rattle.std.proofs.Common.{◌≡◌, ◌⊎◌, inl, inr, ℕ, ℤ, suc, zero, ◌≤◌, ◌≤ℤ◌, min, max, Bool, true, false, if◌then◌else◌, nat_lt, int_lt, ◌||◌, ◌&&◌, List, [], ◌∷◌, fold, All, Some, refl, sym, subst, ◌∙◌, arith}
 use Rattle.std.specs.List.{Any}
 use Rattle.std.specs.Int.{int_max}
 use Rattle.std.specs.Ordering.{int_eq}
-use Rattle.std.specs.Option.{ForSome}
 use Rattle.std.proofs.lemmas.Int.{ints, int_max_is}
 use Rattle.std.proofs.lemmas.List.Elements.{All-nil, All-cons}
 use Rattle.std.proofs.lemmas.Bool.Decides.{nat_tests, Decides-int_eq}
@@ -44,8 +43,8 @@ fold-chooses : {B : Type 0} (step : B → Credit → B) (own : Credit → B) →
 fold-chooses step own h [] b c is = (0, c, omega arith, refl, is)
 fold-chooses step own h (d ∷ cs) b c is =
     elim (h b d) [
-      inl same ↦ Any-insert c d cs (fold-chooses step own h cs (step b d) c (same ∙ is))
-    | inr new ↦ Any-more c (d ∷ cs) (fold-chooses step own h cs (step b d) d new)
+      | inl same ↦ Any-insert c d cs (fold-chooses step own h cs (step b d) c (same ∙ is))
+      | inr new ↦ Any-more c (d ∷ cs) (fold-chooses step own h cs (step b d) d new)
     ]
 
 least-bounds : Bounds (λ (m : ℕ) (d : Credit). min m d.sent_at) (λ m d. m ≤ d.sent_at)
@@ -95,6 +94,7 @@ earlier-false x y m n h =
   where
     at_least : int_lt x y ≡ false → y ≤ℤ x
     at_least h = grind (arith, ints)
+
     no_less : nat_lt m n ≡ false → n ≤ m
     no_less h = grind (arith, nat_tests)
 
@@ -105,10 +105,13 @@ earlier-here false b c h = let f = earlier-false c.arrival b.arrival c.number b.
 earlier-kept : (earlier : Bool) (b c d : Credit) → is_earlier c b ≡ earlier → IsNoLater b d → IsNoLater (if earlier then c else b) d
 earlier-kept true b c d h r =
     let f = earlier-true c.arrival b.arrival c.number b.number h in
-    record { arrival = omega (arith, ints, f.0, r.arrival); number = λ same.
-      let first : c.arrival ≡ b.arrival = omega (arith, ints, f.0, r.arrival) in
-      let second : b.arrival ≡ d.arrival = omega (arith, ints, f.0, r.arrival) in
-      omega (arith, f.1 first, r.number second) }
+    record {
+      arrival = omega (arith, ints, f.0, r.arrival);
+      number = λ same.
+          let first : c.arrival ≡ b.arrival = omega (arith, ints, f.0, r.arrival) in
+          let second : b.arrival ≡ d.arrival = omega (arith, ints, f.0, r.arrival) in
+          omega (arith, f.1 first, r.number second);
+    }
 earlier-kept false b c d h r = r
 
 earlier-bounds : Bounds earlier_of IsNoLater
@@ -158,6 +161,7 @@ of_first c cs h is = subst (IsOf (c ∷ cs)) (some_same _ h is) (record {
   where
     some_same : (g h : Heard) → Some g ≡ Some h → g ≡ h
     some_same g h e = cc
+
     earlier-itself : (c : Credit) → IsNoLater c c
     earlier-itself c = record { arrival = omega (arith, ints); number = λ _. omega arith }
 

@@ -1,5 +1,5 @@
 -- Lists of probe clusters; a cluster's id is its place.
-use Rattle.std.specs.Prelude.{◌≡◌, ◌<◌, ◌≤◌, length, slice_index_or, ℕ, zero, suc, ◌+◌, Bool, true, false, if◌then◌else◌, List, [], ◌∷◌, ◌++◌, map, position, slice_get, option_map, Option, Some, None}
+use Rattle.std.specs.Prelude.{◌≡◌, ◌<◌, ◌≤◌, length, fold, slice_index_or, ℕ, zero, suc, ◌+◌, false, if◌then◌else◌, List, [], ◌∷◌, ◌++◌, map, position, slice_get, option_map, Option, Some, None}
 use Rattle.gcc_units.specs.declared.shared_types.Credit.{Credit}
 use Rattle.probe_clusters.specs.declared.cluster.Cluster.{Cluster}
 use Rattle.probe_clusters.specs.declared.probes.Outcome.{Outcome}
@@ -50,6 +50,10 @@ sent size now cs = changed_where (with_packet size now) (current cs) cs
 -- with one credit more for the cluster that it names
 abbrev pub noted : Credit → List Cluster → List Cluster
 noted credit cs = changed_where (with_credit credit) credit.cluster cs
+
+-- with these credits, one after another
+abbrev pub noted_all : List Credit → List Cluster → List Cluster
+noted_all credits cs = fold (λ (now : List Cluster) (credit : Credit). noted credit now) cs credits
 
 -- ---- results
 

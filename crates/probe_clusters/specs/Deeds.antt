@@ -65,7 +65,7 @@ cluster_of ds id rate = record {
   bytes = sum (sizes id ds);
   first_sent = slice_get (moments id ds) 0;
   heard = heard_of (credits id ds);
-  taken = list_any (takes id) ds
+  taken = list_any (takes id) ds;
 }
 
 abbrev pub clusters_from : List Deed → ℕ → List ℕ → List Cluster

@@ -1,5 +1,5 @@
 -- What the credits of one cluster's packets say, and the rate that they give.
-use Rattle.std.specs.Prelude.{ℕ, ℤ, pos, ◌-ℤ◌, ◌+◌, ◌-◌, ◌*◌, ◌/◌, Bool, ◌&&◌, ◌||◌, nat_lt, nat_le, int_lt, max, min, unsigned_abs, if◌then◌else◌, List, [], ◌∷◌, length, sum_by, fold, Option, Some, None}
+use Rattle.std.specs.Prelude.{ℕ, ℤ, ◌-ℤ◌, ◌+◌, ◌-◌, ◌*◌, ◌/◌, Bool, ◌&&◌, ◌||◌, nat_lt, nat_le, int_lt, max, min, unsigned_abs, if◌then◌else◌, List, [], ◌∷◌, length, sum_by, fold, Option, Some, None}
 use Rattle.std.specs.Int.{int_max}
 use Rattle.std.specs.Ordering.{int_eq}
 use Rattle.gcc_units.specs.declared.shared_types.Credit.{Credit}
@@ -31,7 +31,7 @@ heard_of (c ∷ cs) = Some (record {
   sent_greatest = fold (λ (m : ℕ) (d : Credit). max m d.sent_at) c.sent_at cs;
   arrival_greatest = fold (λ (a : ℤ) (d : Credit). int_max a d.arrival) c.arrival cs;
   earliest = fold earlier_of c cs;
-  latest = fold later_of c cs
+  latest = fold later_of c cs;
 })
 
 -- with one credit more
@@ -43,7 +43,7 @@ heard_with None c = record {
   sent_greatest = c.sent_at;
   arrival_greatest = c.arrival;
   earliest = c;
-  latest = c
+  latest = c;
 }
 heard_with (Some h) c = record {
   count = h.count + 1;
@@ -52,7 +52,7 @@ heard_with (Some h) c = record {
   sent_greatest = max h.sent_greatest c.sent_at;
   arrival_greatest = int_max h.arrival_greatest c.arrival;
   earliest = earlier_of h.earliest c;
-  latest = later_of h.latest c
+  latest = later_of h.latest c;
 }
 
 -- ---- the rate that they give

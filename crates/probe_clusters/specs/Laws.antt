@@ -1,12 +1,13 @@
 -- What the definitions say in other words: the credits' least and greatest, and that a result is taken once.
-use Rattle.std.specs.Prelude.{◌≡◌, ℕ, ◌≤◌, ◌<ℤ◌, ◌≤ℤ◌, ◌⊎◌, false, true, List, ◌∷◌, ◌++◌, length, sum_by, All, Any, Contains}
+use Rattle.std.specs.Prelude.{◌≡◌, ℕ, ◌≤◌, ◌≤ℤ◌, false, true, List, ◌∷◌, ◌++◌, length, map, sum_by, All, Any}
 use Rattle.std.specs.Option.{ForSome}
 use Rattle.gcc_units.specs.declared.shared_types.Credit.{Credit}
 use Rattle.probe_clusters.specs.declared.cluster.Cluster.{Cluster}
 use Rattle.probe_clusters.specs.declared.heard.Heard.{Heard}
 use Rattle.probe_clusters.specs.Heard.{heard_of}
 use Rattle.probe_clusters.specs.Cluster.{waits, is_ready}
-use Rattle.probe_clusters.specs.Deeds.{Deed, cluster_of}
+use Rattle.probe_clusters.specs.Deeds.{Deed, Note, NamedBelow, StandsFor, cluster_of, takings}
+use Rattle.probe_clusters.specs.Clusters.{after_outcomes, noted_all, outcomes}
 
 -- the first arrived sooner, or with the other and has no greater number
 pub record IsNoLater (a b : Credit) : Type 0 where
@@ -44,3 +45,12 @@ TakenOnce = (ds es : List Deed) (id rate : ℕ) → (cluster_of ds id rate).take
 -- once a cluster no longer waits, no deed makes it wait again
 abbrev pub WaitsOnce : Type 0
 WaitsOnce = (ds es : List Deed) (id rate : ℕ) → waits (cluster_of ds id rate) ≡ false → waits (cluster_of (ds ++ es) id rate) ≡ false
+
+-- credits, noted one after another, leave clusters that stand for the deeds with these notes at their end
+abbrev pub CreditsStand : Type 0
+CreditsStand = (cs : List Cluster) (ds : List Deed) (credits : List Credit) → All (λ (c : Credit). NamedBelow (length cs) c.cluster) credits → StandsFor cs ds
+    → StandsFor (noted_all credits cs) (ds ++ map (λ (c : Credit). Note c) credits)
+
+-- outcomes, taken one after another, leave clusters that stand for the deeds with these takings at their end
+abbrev pub OutcomesStand : Type 0
+OutcomesStand = (cs : List Cluster) (ds : List Deed) → StandsFor cs ds → StandsFor (after_outcomes cs) (ds ++ takings (outcomes cs))

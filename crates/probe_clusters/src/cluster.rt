@@ -105,7 +105,7 @@ impl Cluster {
         !self.taken && !self.waits() && self.is_enough()
     }
 
-    /// Its result, which no credit or unfit ones do not give.
+    /// Its result: none where nothing was credited, or where the credits show no rate.
     pub fn result(&self) -> Option<Rate>
         ensures { result ≡ result_of self.now.heard }
     {

@@ -1,6 +1,6 @@
 //! Probe clusters: bursts of packets that are sent at a planned rate, and the rate of the path that
-//! their credits show (in outline draft-ietf-rmcat-gcc-02, section 5.5, and the probes of libwebrtc;
-//! the numbers are this project's own).
+//! their credits show (in outline as libwebrtc's prober and probe estimator do it; that clusters go one
+//! after another by their ids is this project's own rule).
 //!
 //! Rates are bit/s, moments microseconds, arrivals quarter-milliseconds. A cluster's id is the count
 //! of clusters that were planned before it.
@@ -11,7 +11,9 @@ mod heard;
 mod laws;
 mod probes;
 
-pub use laws::{clusters_wait_once, credits_together, results_are_taken_once};
+pub use laws::{
+    clusters_wait_once, credits_stand, credits_together, outcomes_stand, results_are_taken_once,
+};
 pub use probes::{Clusters, Outcome, PlanFault};
 
 /// The fewest packets that are sent for a cluster.
@@ -46,3 +48,6 @@ pub const BYTE: u64 = 8_000_000;
 
 /// The microseconds of a quarter-millisecond.
 pub const ARRIVAL_MICROSECONDS: u64 = 250;
+
+#[cfg(test)]
+mod tests;

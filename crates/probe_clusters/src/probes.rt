@@ -142,6 +142,7 @@ impl Clusters {
         requires within { ReachedBy MOST_PACKETS MOST_PACKETS self.old.items }
         ensures items { self.new.items ≡ sent size now self.old.items }
         ensures spare { self.new.spare ≡ self.old.spare }
+        ensures count { length self.new.items ≡ length self.old.items }
         ensures stands { (ds : List Deed) → StandsFor self.old.items ds
             → StandsFor self.new.items (ds ++ send (due self.old.items now) size now) }
         ensures reached { (sends credits : ℕ) → ReachedBy sends credits self.old.items → ReachedBy (sends + 1) credits self.new.items }
@@ -162,6 +163,7 @@ impl Clusters {
         requires within { ReachedBy MOST_PACKETS MOST_PACKETS self.old.items }
         ensures items { self.new.items ≡ noted credit.now self.old.items }
         ensures spare { self.new.spare ≡ self.old.spare }
+        ensures count { length self.new.items ≡ length self.old.items }
         ensures stands { (ds : List Deed) → StandsFor self.old.items ds → StandsFor self.new.items (ds ++ Note credit.now ∷ []) }
         ensures reached { (sends credits : ℕ) → ReachedBy sends credits self.old.items → ReachedBy sends (credits + 1) self.new.items }
     {
@@ -179,6 +181,7 @@ impl Clusters {
         ensures value { result ≡ ready self.old.items }
         ensures items { self.new.items ≡ after_ready self.old.items }
         ensures spare { self.new.spare ≡ self.old.spare }
+        ensures count { length self.new.items ≡ length self.old.items }
         ensures answer { (ds : List Deed) → StandsFor self.old.items ds → result ≡ ready (clusters ds) }
         ensures stands { (ds : List Deed) → StandsFor self.old.items ds
             → StandsFor self.new.items (ds ++ takings (listed result)) }

@@ -1,4 +1,4 @@
-use Rattle.std.proofs.Common.{◌≡◌, sym, ◌∙◌}
+use Rattle.std.proofs.Common.{sym, ◌∙◌}
 use Rattle.probe_clusters.proofs.Passed.{count_by-over}
 use Rattle.probe_clusters.proofs.probes.count_waiting.Goals as goal
 

@@ -1,4 +1,4 @@
-use Rattle.std.proofs.Common.{◌≡◌, ℕ, ◌+◌, Option, option_map, sym, ap, ◌∙◌}
+use Rattle.std.proofs.Common.{ℕ, ◌+◌, option_map, sym, ap, ◌∙◌}
 use Rattle.probe_clusters.proofs.Passed.{position-over}
 use Rattle.probe_clusters.proofs.probes.current.Goals as goal
 

@@ -1,14 +1,11 @@
-use Rattle.std.proofs.Common.{◌≡◌, ℕ, ◌+◌, ◌<◌, ◌≤◌, List, [], ◌∷◌, ◌++◌, length, position, slice_get, slice_set, Option, Some, None, IfSome, refl, sym, ap, subst, ◌∙◌, rules, arith}
+use Rattle.std.proofs.Common.{◌≡◌, ℕ, ◌+◌, ◌<◌, List, [], ◌∷◌, ◌++◌, length, Option, IfSome, sym, ap, subst, ◌∙◌, rules, arith}
 use Rattle.gcc_units.specs.Listed.{Listed}
 use Rattle.probe_clusters.specs.declared.cluster.Cluster.{Cluster}
-use Rattle.probe_clusters.specs.declared.probes.Outcome.{Outcome}
-use Rattle.probe_clusters.specs.Cluster.{planned, waits, is_ready, with_packet, with_credit, with_result_taken}
-use Rattle.probe_clusters.specs.Clusters.{AreOver, changed, changed_where, current, due, sent, noted, outcome, outcomes, ready, after_ready, after_outcomes}
-use Rattle.probe_clusters.specs.Deeds.{Deed, Plan, Send, Note, Take, StandsFor, ReachedBy, send}
-use Rattle.probe_clusters.proofs.Places.{IsFirst, first_found, place_of, found, written, due-current}
-use Rattle.probe_clusters.proofs.Passed.{AreOver-sent}
-use Rattle.probe_clusters.proofs.Pushes.{stands-sent, stands-noted, stands-unnoted, stands-taken, stands-planned}
-use Rattle.probe_clusters.proofs.Taking.{Took, took, NoneLeft, none_left}
+use Rattle.probe_clusters.specs.Cluster.{with_credit}
+use Rattle.probe_clusters.specs.Clusters.{changed, changed_where}
+use Rattle.probe_clusters.specs.Deeds.{Note, StandsFor, ReachedBy}
+use Rattle.probe_clusters.proofs.Places.{found, written}
+use Rattle.probe_clusters.proofs.Pushes.{stands-noted, stands-unnoted}
 use Rattle.probe_clusters.proofs.Bounds.{small-at, reached-push, reached-more}
 use Rattle.probe_clusters.proofs.probes.Clusters.judge.Goals as goal
 

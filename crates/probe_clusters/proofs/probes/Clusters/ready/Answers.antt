@@ -1,15 +1,14 @@
-use Rattle.std.proofs.Common.{◌≡◌, ℕ, ◌+◌, ◌<◌, ◌≤◌, List, [], ◌∷◌, ◌++◌, length, position, slice_get, slice_set, Option, Some, None, IfSome, refl, sym, ap, subst, ◌∙◌, rules, arith}
+use Rattle.std.proofs.Common.{◌≡◌, ℕ, ◌+◌, List, [], ◌∷◌, ◌++◌, length, position, Option, Some, None, refl, sym, ap, subst, ◌∙◌, rules, arith}
 use Rattle.gcc_units.specs.Listed.{Listed}
 use Rattle.probe_clusters.specs.declared.cluster.Cluster.{Cluster}
 use Rattle.probe_clusters.specs.declared.probes.Outcome.{Outcome}
-use Rattle.probe_clusters.specs.Cluster.{planned, waits, is_ready, with_packet, with_credit, with_result_taken}
-use Rattle.probe_clusters.specs.Clusters.{AreOver, changed, changed_where, current, due, sent, noted, outcome, outcomes, ready, after_ready, after_outcomes}
-use Rattle.probe_clusters.specs.Deeds.{Deed, Plan, Send, Note, Take, StandsFor, ReachedBy, send}
-use Rattle.probe_clusters.proofs.Places.{IsFirst, first_found, place_of, found, written, due-current}
-use Rattle.probe_clusters.proofs.Passed.{AreOver-sent}
-use Rattle.probe_clusters.proofs.Pushes.{stands-sent, stands-noted, stands-unnoted, stands-taken, stands-planned}
+use Rattle.probe_clusters.specs.Cluster.{is_ready, with_result_taken}
+use Rattle.probe_clusters.specs.Clusters.{changed, outcome, outcomes, after_outcomes}
+use Rattle.probe_clusters.specs.Deeds.{Take, StandsFor, ReachedBy}
+use Rattle.probe_clusters.proofs.Places.{IsFirst, first_found, place_of, found, written}
+use Rattle.probe_clusters.proofs.Pushes.{stands-taken}
 use Rattle.probe_clusters.proofs.Taking.{Took, took, NoneLeft, none_left}
-use Rattle.probe_clusters.proofs.Bounds.{small-at, reached-push, reached-more}
+use Rattle.probe_clusters.proofs.Bounds.{reached-push, reached-more}
 use Rattle.probe_clusters.proofs.probes.Clusters.ready.Goals as goal
 
 pub returns-in_default-clause-none : goal.returns-in_default-clause-none
@@ -17,7 +16,7 @@ returns-in_default-clause-none c =
     let items = c.args.self.now.items in
     let same : c.self.inside.held.items ≡ items = ap (λ (v : Listed Cluster). v.items) c.self.view_is in
     let place : position is_ready items ≡ None =
-        place_of is_ready c.as_slice.result.now c.self.inside.held.items items c.first_ready.result None c.first_ready.ensures (search rules) c.as_slice.ensures.value same in
+    place_of is_ready c.as_slice.result.now c.self.inside.held.items items c.first_ready.result None c.first_ready.ensures (search rules) c.as_slice.ensures.value same in
     let none : NoneLeft items = none_left items place in
     (λ _. none.no_outcomes, λ _. refl)
 
@@ -26,7 +25,7 @@ returns-in_default-clause-all_taken c =
     let items = c.args.self.now.items in
     let same : c.self.inside.held.items ≡ items = ap (λ (v : Listed Cluster). v.items) c.self.view_is in
     let place : position is_ready items ≡ None =
-        place_of is_ready c.as_slice.result.now c.self.inside.held.items items c.first_ready.result None c.first_ready.ensures (search rules) c.as_slice.ensures.value same in
+    place_of is_ready c.as_slice.result.now c.self.inside.held.items items c.first_ready.result None c.first_ready.ensures (search rules) c.as_slice.ensures.value same in
     let none : NoneLeft items = none_left items place in
     none.end
 
@@ -36,7 +35,7 @@ returns-clause-value c =
     let id = c.in-Some.id in
     let same : c.self.inside.held.items ≡ items = ap (λ (v : Listed Cluster). v.items) c.self.view_is in
     let place : position is_ready items ≡ Some id =
-        place_of is_ready c.as_slice.result.now c.self.inside.held.items items c.first_ready.result (Some id) c.first_ready.ensures c.in-Some.is c.as_slice.ensures.value same in
+    place_of is_ready c.as_slice.result.now c.self.inside.held.items items c.first_ready.result (Some id) c.first_ready.ensures c.in-Some.is c.as_slice.ensures.value same in
     let one : IsFirst is_ready items id = first_found is_ready items id place in
     let new = written with_result_taken c.self.inside.held.items items id c.index.result.now c.with_result_taken.result same one.below c.index.ensures c.with_result_taken.ensures in
     let this : Took items id c.index.result.now = took items id c.index.result.now place (found c.self.inside.held.items items id c.index.result.now same one.below c.index.ensures) in
@@ -49,7 +48,7 @@ returns-clause-items c =
     let id = c.in-Some.id in
     let same : c.self.inside.held.items ≡ items = ap (λ (v : Listed Cluster). v.items) c.self.view_is in
     let place : position is_ready items ≡ Some id =
-        place_of is_ready c.as_slice.result.now c.self.inside.held.items items c.first_ready.result (Some id) c.first_ready.ensures c.in-Some.is c.as_slice.ensures.value same in
+    place_of is_ready c.as_slice.result.now c.self.inside.held.items items c.first_ready.result (Some id) c.first_ready.ensures c.in-Some.is c.as_slice.ensures.value same in
     let one : IsFirst is_ready items id = first_found is_ready items id place in
     let new = written with_result_taken c.self.inside.held.items items id c.index.result.now c.with_result_taken.result same one.below c.index.ensures c.with_result_taken.ensures in
     let this : Took items id c.index.result.now = took items id c.index.result.now place (found c.self.inside.held.items items id c.index.result.now same one.below c.index.ensures) in
@@ -62,7 +61,7 @@ returns-clause-stands c = λ ds h.
     let id = c.in-Some.id in
     let same : c.self.inside.held.items ≡ items = ap (λ (v : Listed Cluster). v.items) c.self.view_is in
     let place : position is_ready items ≡ Some id =
-        place_of is_ready c.as_slice.result.now c.self.inside.held.items items c.first_ready.result (Some id) c.first_ready.ensures c.in-Some.is c.as_slice.ensures.value same in
+    place_of is_ready c.as_slice.result.now c.self.inside.held.items items c.first_ready.result (Some id) c.first_ready.ensures c.in-Some.is c.as_slice.ensures.value same in
     let one : IsFirst is_ready items id = first_found is_ready items id place in
     let new = written with_result_taken c.self.inside.held.items items id c.index.result.now c.with_result_taken.result same one.below c.index.ensures c.with_result_taken.ensures in
     let this : Took items id c.index.result.now = took items id c.index.result.now place (found c.self.inside.held.items items id c.index.result.now same one.below c.index.ensures) in
@@ -76,7 +75,7 @@ returns-clause-reached c = λ sends credits h.
     let id = c.in-Some.id in
     let same : c.self.inside.held.items ≡ items = ap (λ (v : Listed Cluster). v.items) c.self.view_is in
     let place : position is_ready items ≡ Some id =
-        place_of is_ready c.as_slice.result.now c.self.inside.held.items items c.first_ready.result (Some id) c.first_ready.ensures c.in-Some.is c.as_slice.ensures.value same in
+    place_of is_ready c.as_slice.result.now c.self.inside.held.items items c.first_ready.result (Some id) c.first_ready.ensures c.in-Some.is c.as_slice.ensures.value same in
     let one : IsFirst is_ready items id = first_found is_ready items id place in
     let new = written with_result_taken c.self.inside.held.items items id c.index.result.now c.with_result_taken.result same one.below c.index.ensures c.with_result_taken.ensures in
     let this : Took items id c.index.result.now = took items id c.index.result.now place (found c.self.inside.held.items items id c.index.result.now same one.below c.index.ensures) in
@@ -91,7 +90,7 @@ returns-clause-first c =
     let id = c.in-Some.id in
     let same : c.self.inside.held.items ≡ items = ap (λ (v : Listed Cluster). v.items) c.self.view_is in
     let place : position is_ready items ≡ Some id =
-        place_of is_ready c.as_slice.result.now c.self.inside.held.items items c.first_ready.result (Some id) c.first_ready.ensures c.in-Some.is c.as_slice.ensures.value same in
+    place_of is_ready c.as_slice.result.now c.self.inside.held.items items c.first_ready.result (Some id) c.first_ready.ensures c.in-Some.is c.as_slice.ensures.value same in
     let one : IsFirst is_ready items id = first_found is_ready items id place in
     let new = written with_result_taken c.self.inside.held.items items id c.index.result.now c.with_result_taken.result same one.below c.index.ensures c.with_result_taken.ensures in
     let this : Took items id c.index.result.now = took items id c.index.result.now place (found c.self.inside.held.items items id c.index.result.now same one.below c.index.ensures) in
@@ -105,7 +104,7 @@ returns-clause-fewer c =
     let id = c.in-Some.id in
     let same : c.self.inside.held.items ≡ items = ap (λ (v : Listed Cluster). v.items) c.self.view_is in
     let place : position is_ready items ≡ Some id =
-        place_of is_ready c.as_slice.result.now c.self.inside.held.items items c.first_ready.result (Some id) c.first_ready.ensures c.in-Some.is c.as_slice.ensures.value same in
+    place_of is_ready c.as_slice.result.now c.self.inside.held.items items c.first_ready.result (Some id) c.first_ready.ensures c.in-Some.is c.as_slice.ensures.value same in
     let one : IsFirst is_ready items id = first_found is_ready items id place in
     let new = written with_result_taken c.self.inside.held.items items id c.index.result.now c.with_result_taken.result same one.below c.index.ensures c.with_result_taken.ensures in
     let this : Took items id c.index.result.now = took items id c.index.result.now place (found c.self.inside.held.items items id c.index.result.now same one.below c.index.ensures) in
@@ -118,7 +117,7 @@ returns-clause-end c =
     let id = c.in-Some.id in
     let same : c.self.inside.held.items ≡ items = ap (λ (v : Listed Cluster). v.items) c.self.view_is in
     let place : position is_ready items ≡ Some id =
-        place_of is_ready c.as_slice.result.now c.self.inside.held.items items c.first_ready.result (Some id) c.first_ready.ensures c.in-Some.is c.as_slice.ensures.value same in
+    place_of is_ready c.as_slice.result.now c.self.inside.held.items items c.first_ready.result (Some id) c.first_ready.ensures c.in-Some.is c.as_slice.ensures.value same in
     let one : IsFirst is_ready items id = first_found is_ready items id place in
     let new = written with_result_taken c.self.inside.held.items items id c.index.result.now c.with_result_taken.result same one.below c.index.ensures c.with_result_taken.ensures in
     let this : Took items id c.index.result.now = took items id c.index.result.now place (found c.self.inside.held.items items id c.index.result.now same one.below c.index.ensures) in
@@ -131,7 +130,7 @@ returns-clause-none c =
     let id = c.in-Some.id in
     let same : c.self.inside.held.items ≡ items = ap (λ (v : Listed Cluster). v.items) c.self.view_is in
     let place : position is_ready items ≡ Some id =
-        place_of is_ready c.as_slice.result.now c.self.inside.held.items items c.first_ready.result (Some id) c.first_ready.ensures c.in-Some.is c.as_slice.ensures.value same in
+    place_of is_ready c.as_slice.result.now c.self.inside.held.items items c.first_ready.result (Some id) c.first_ready.ensures c.in-Some.is c.as_slice.ensures.value same in
     let one : IsFirst is_ready items id = first_found is_ready items id place in
     let new = written with_result_taken c.self.inside.held.items items id c.index.result.now c.with_result_taken.result same one.below c.index.ensures c.with_result_taken.ensures in
     let this : Took items id c.index.result.now = took items id c.index.result.now place (found c.self.inside.held.items items id c.index.result.now same one.below c.index.ensures) in

@@ -1,14 +1,12 @@
-use Rattle.std.proofs.Common.{◌≡◌, ℕ, ◌+◌, ◌<◌, ◌≤◌, List, [], ◌∷◌, ◌++◌, length, position, slice_get, slice_set, Option, Some, None, IfSome, refl, sym, ap, subst, ◌∙◌, rules, arith}
+use Rattle.std.proofs.Common.{◌≡◌, ℕ, ◌+◌, List, ◌++◌, position, slice_set, Option, Some, refl, sym, ap, subst, ◌∙◌, arith}
 use Rattle.gcc_units.specs.Listed.{Listed}
 use Rattle.probe_clusters.specs.declared.cluster.Cluster.{Cluster}
-use Rattle.probe_clusters.specs.declared.probes.Outcome.{Outcome}
-use Rattle.probe_clusters.specs.Cluster.{planned, waits, is_ready, with_packet, with_credit, with_result_taken}
-use Rattle.probe_clusters.specs.Clusters.{AreOver, changed, changed_where, current, due, sent, noted, outcome, outcomes, ready, after_ready, after_outcomes}
-use Rattle.probe_clusters.specs.Deeds.{Deed, Plan, Send, Note, Take, StandsFor, ReachedBy, send}
+use Rattle.probe_clusters.specs.Cluster.{waits, with_packet}
+use Rattle.probe_clusters.specs.Clusters.{AreOver, changed, changed_where, due}
+use Rattle.probe_clusters.specs.Deeds.{Send, StandsFor, ReachedBy, send}
 use Rattle.probe_clusters.proofs.Places.{IsFirst, first_found, place_of, found, written, due-current}
 use Rattle.probe_clusters.proofs.Passed.{AreOver-sent}
-use Rattle.probe_clusters.proofs.Pushes.{stands-sent, stands-noted, stands-unnoted, stands-taken, stands-planned}
-use Rattle.probe_clusters.proofs.Taking.{Took, took, NoneLeft, none_left}
+use Rattle.probe_clusters.proofs.Pushes.{stands-sent}
 use Rattle.probe_clusters.proofs.Bounds.{small-at, reached-push, reached-more}
 use Rattle.probe_clusters.proofs.probes.Clusters.sent.Goals as goal
 
@@ -16,10 +14,12 @@ pub invariant_of-self : goal.invariant_of-self
 invariant_of-self c =
     let held = c.self.inside.held.items in
     let place : position waits held ≡ Some c.in-Some.id =
-        place_of waits c.as_slice.result.now held held c.current.result (Some c.in-Some.id) c.current.ensures c.in-Some.is c.as_slice.ensures.value refl in
-    let P : ℕ → Type 0 = λ n. AreOver n (slice_set held c.in-Some.id c.with_packet-cluster.result) in
-    (c.self.invariant.0, c.self.invariant.1,
-    subst P (sym c.over_from-self-inside.ensures) (AreOver-sent held c.in-Some.id c.with_packet-cluster.result (first_found waits held c.in-Some.id place)))
+    place_of waits c.as_slice.result.now held held c.current.result (Some c.in-Some.id) c.current.ensures c.in-Some.is c.as_slice.ensures.value refl in
+    let P : ℕ → Type 0 = λ n. AreOver n (slice_set held c.in-Some.id c.with_packet-cluster.result) in (
+      c.self.invariant.0,
+      c.self.invariant.1,
+      subst P (sym c.over_from-self-inside.ensures) (AreOver-sent held c.in-Some.id c.with_packet-cluster.result (first_found waits held c.in-Some.id place)),
+    )
 
 pub with_packet-cluster-requires-clause-small : goal.with_packet-cluster-requires-clause-small
 with_packet-cluster-requires-clause-small c =
@@ -27,7 +27,7 @@ with_packet-cluster-requires-clause-small c =
     let id = c.in-Some.id in
     let same : c.self.inside.held.items ≡ items = ap (λ (v : Listed Cluster). v.items) c.self.view_is in
     let place : position waits items ≡ Some id =
-        place_of waits c.as_slice.result.now c.self.inside.held.items items c.current.result (Some id) c.current.ensures c.in-Some.is c.as_slice.ensures.value same in
+    place_of waits c.as_slice.result.now c.self.inside.held.items items c.current.result (Some id) c.current.ensures c.in-Some.is c.as_slice.ensures.value same in
     let one : IsFirst waits items id = first_found waits items id place in
     small-at items id c.index.result.now c.requires.within
     (found c.self.inside.held.items items id c.index.result.now same one.below c.index.ensures)
@@ -38,7 +38,7 @@ returns-clause-items c =
     let id = c.in-Some.id in
     let same : c.self.inside.held.items ≡ items = ap (λ (v : Listed Cluster). v.items) c.self.view_is in
     let place : position waits items ≡ Some id =
-        place_of waits c.as_slice.result.now c.self.inside.held.items items c.current.result (Some id) c.current.ensures c.in-Some.is c.as_slice.ensures.value same in
+    place_of waits c.as_slice.result.now c.self.inside.held.items items c.current.result (Some id) c.current.ensures c.in-Some.is c.as_slice.ensures.value same in
     let one : IsFirst waits items id = first_found waits items id place in
     let new = written (with_packet c.args.size c.args.now) c.self.inside.held.items items id c.index.result.now c.with_packet-cluster.result same one.below c.index.ensures c.with_packet-cluster.ensures in
     new ∙ ap (λ (o : Option ℕ). changed_where (with_packet c.args.size c.args.now) o items) (sym place)
@@ -49,7 +49,7 @@ returns-clause-stands c = λ ds h.
     let id = c.in-Some.id in
     let same : c.self.inside.held.items ≡ items = ap (λ (v : Listed Cluster). v.items) c.self.view_is in
     let place : position waits items ≡ Some id =
-        place_of waits c.as_slice.result.now c.self.inside.held.items items c.current.result (Some id) c.current.ensures c.in-Some.is c.as_slice.ensures.value same in
+    place_of waits c.as_slice.result.now c.self.inside.held.items items c.current.result (Some id) c.current.ensures c.in-Some.is c.as_slice.ensures.value same in
     let one : IsFirst waits items id = first_found waits items id place in
     let new = written (with_packet c.args.size c.args.now) c.self.inside.held.items items id c.index.result.now c.with_packet-cluster.result same one.below c.index.ensures c.with_packet-cluster.ensures in
     let named : due items c.args.now ≡ Some id = due-current items c.args.now id place c.requires.due in
@@ -64,7 +64,7 @@ returns-clause-reached c = λ sends credits h.
     let id = c.in-Some.id in
     let same : c.self.inside.held.items ≡ items = ap (λ (v : Listed Cluster). v.items) c.self.view_is in
     let place : position waits items ≡ Some id =
-        place_of waits c.as_slice.result.now c.self.inside.held.items items c.current.result (Some id) c.current.ensures c.in-Some.is c.as_slice.ensures.value same in
+    place_of waits c.as_slice.result.now c.self.inside.held.items items c.current.result (Some id) c.current.ensures c.in-Some.is c.as_slice.ensures.value same in
     let one : IsFirst waits items id = first_found waits items id place in
     let new = written (with_packet c.args.size c.args.now) c.self.inside.held.items items id c.index.result.now c.with_packet-cluster.result same one.below c.index.ensures c.with_packet-cluster.ensures in
     let P : List Cluster → Type 0 = λ cs. ReachedBy (sends + 1) (credits + 0) cs in

@@ -1,4 +1,5 @@
 ghost use Rattle.std.specs.Prelude.{◌≡◌, IfOk};
+ghost use Rattle.allocator.specs.Streams.{IsSound};
 
 use gcc_units::{Duplicate, NoMemory, Rate, Sequence};
 use std::alloc::Global;
@@ -26,7 +27,9 @@ pub struct Stream {
 
 impl Default for Stream {
     /// A stream that can use nothing.
-    fn default() -> Stream {
+    fn default() -> Stream
+        ensures { IsSound result }
+    {
         Stream {
             id: 0,
             min: 0,

@@ -7,39 +7,92 @@ use gcc_units::{GREATEST_RATE, IdList, MOST_STREAMS, NoMemory, Rate, Share, Shar
 use std::alloc::Global;
 use std::test::Fail;
 
-fn stream(id: u32, min: Rate, max: Rate, weight: u32) -> Stream {
+/// Id, minimum, maximum, weight and whether it is enforced.
+#[derive(Clone, Copy)]
+struct Row(u32, Rate, Rate, u32, bool);
+
+/// Streams, a total, and the ids and rates of the shares.
+#[derive(Clone, Copy)]
+struct Case(&'static [Row], Rate, &'static [(u32, Rate)]);
+
+const TWO: &[Row] = &[
+    Row(1, 100_000, 1_000_000, 2, false),
+    Row(2, 50_000, 1_000_000, 1, false),
+];
+
+const CASES: [Case; 7] = [
+    Case(TWO, 300_001, &[(1, 200_001), (2, 100_000)]),
+    // a minimum that does not fit is not served
+    Case(TWO, 120_000, &[(1, 120_000), (2, 0)]),
+    // an enforced minimum above the total
+    Case(
+        &[Row(1, 60_000, 70_000, 5, true), Row(2, 0, 1_000, 9, false)],
+        50_000,
+        &[(1, 60_000), (2, 0)],
+    ),
+    // what is left goes by weight, then by id
+    Case(
+        &[
+            Row(9, 0, 10_000_000, 3, false),
+            Row(4, 0, 10_000_000, 3, false),
+            Row(1, 0, 10_000_000, 7, false),
+        ],
+        100_000,
+        &[(1, 53_848), (4, 23_076), (9, 23_076)],
+    ),
+    Case(
+        &[
+            Row(1, 0, 100_000, 1, true),
+            Row(2, 0, GREATEST_RATE, 3, true),
+            Row(3, 400_000, 500_000, 1, true),
+        ],
+        1_000_000,
+        &[(1, 100_000), (2, 500_000), (3, 400_000)],
+    ),
+    // no more than the maximum
+    Case(&[Row(1, 0, 100, 1, false)], GREATEST_RATE, &[(1, 100)]),
+    Case(&[], 1_000, &[]),
+];
+
+fn stream_of(row: &Row) -> Stream {
     Stream {
-        id,
-        min,
-        max,
-        weight,
-        enforced: false,
+        id: row.0,
+        min: row.1,
+        max: row.2,
+        weight: row.3,
+        enforced: row.4,
     }
 }
 
-fn enforced(id: u32, min: Rate, max: Rate, weight: u32) -> Stream {
-    Stream {
-        id,
-        min,
-        max,
-        weight,
-        enforced: true,
+fn list_of(alloc: Global, rows: &[Row]) -> Result<StreamList, NoMemory> {
+    let mut list = StreamList::new(alloc);
+    for row in rows {
+        if list.push(stream_of(row)).is_err() {
+            return Err(NoMemory);
+        }
     }
+    Ok(list)
 }
 
-fn list_of(alloc: Global, streams: &[Stream]) -> Result<StreamList, NoMemory> {
-    Ok(StreamList::from_vec(Vec::from_slice(alloc, streams)?))
+fn ids_of(alloc: Global, ids: &[u32]) -> Result<IdList, NoMemory> {
+    let mut list = IdList::new(alloc);
+    for id in ids {
+        if list.push(*id).is_err() {
+            return Err(NoMemory);
+        }
+    }
+    Ok(list)
 }
 
 // The set after a change, where it passes its checks.
 fn changed(
     alloc: Global,
     streams: &StreamSet,
-    set: &[Stream],
+    set: &[Row],
     removed: &[u32],
 ) -> Result<Option<StreamSet>, NoMemory> {
     let set = list_of(alloc, set)?;
-    let removed = IdList::from_vec(Vec::from_slice(alloc, removed)?);
+    let removed = ids_of(alloc, removed)?;
     if !are_sound(&set) {
         return Ok(None);
     }
@@ -62,24 +115,38 @@ fn shares_of(alloc: Global, total: Rate, streams: &StreamSet) -> Result<ShareLis
     Ok(out)
 }
 
-fn share(id: u32, rate: Rate) -> Share {
-    Share { id, rate }
+#[test]
+fn worked_shares(rt: HostRuntime) -> Result<(), Fail> {
+    let alloc = rt.alloc();
+    for case in CASES {
+        let streams = changed(alloc, &StreamSet::new(alloc), case.0, &[])?.ok_or("a sound change")?;
+        let shares = shares_of(alloc, case.1.min(GREATEST_RATE), &streams)?;
+        let given: Vec<(u32, Rate)> = shares
+            .as_slice()
+            .iter()
+            .map(|share| (share.id, share.rate))
+            .collect(alloc)?;
+        assert_eq!(rt; given.as_slice(), case.2);
+    }
+    Ok(())
 }
 
 #[test]
-fn a_minimum_that_does_not_fit_is_not_served(rt: HostRuntime) -> Result<(), Fail> {
+fn changes_remove_and_set(rt: HostRuntime) -> Result<(), Fail> {
     let alloc = rt.alloc();
-    let two = [
-        stream(1, 100_000, 1_000_000, 2),
-        stream(2, 50_000, 1_000_000, 1),
-    ];
-    let streams = changed(alloc, &StreamSet::new(alloc), &two, &[])?.or_fail()?;
-    let both = shares_of(alloc, 300_001, &streams)?;
-    assert_eq!(rt;
-        both.as_slice(),
-        [share(1, 200_001), share(2, 100_000)].as_slice()
-    );
-    let one = shares_of(alloc, 120_000, &streams)?;
-    assert_eq!(rt; one.as_slice(), [share(1, 120_000), share(2, 0)].as_slice());
+    let two = changed(alloc, &StreamSet::new(alloc), TWO, &[])?.ok_or("a sound change")?;
+    let other = [Row(2, 0, 70, 1, false), Row(0, 0, 30, 1, false)];
+    let after = changed(alloc, &two, &other, &[1, 77])?.ok_or("a sound change")?;
+    assert_eq!(rt; after.len(), 2);
+    let shares = shares_of(alloc, 1_000, &after)?;
+    assert_eq!(rt; shares.get(0).copied(), Some(Share { id: 0, rate: 30 }));
+    assert_eq!(rt; shares.get(1).copied(), Some(Share { id: 2, rate: 70 }));
+    for refused in [
+        Row(3, 0, 1, 0, false),
+        Row(3, 0, 1, 1_001, false),
+        Row(1, 0, 1, 1, false),
+    ] {
+        assert!(rt; changed(alloc, &two, &[refused], &[1])?.is_none());
+    }
     Ok(())
 }

@@ -1,0 +1,4 @@
+mod Signalling
+mod Reports
+mod Noting
+mod Taking

@@ -1,0 +1,5 @@
+pub mod Signals
+pub mod Report
+pub mod Est
+pub mod Kept
+pub mod Laws

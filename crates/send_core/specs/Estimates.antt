@@ -4,6 +4,7 @@ use Rattle.gcc_units.specs.declared.limits.TheConstants.{GREATEST_RATE}
 use Rattle.gcc_units.specs.declared.shared_types.Bounds.{Bounds}
 use Rattle.gcc_units.specs.Walk.{walk}
 use Rattle.probe_clusters.specs.Deeds.{Deed}
+use Rattle.estimator.specs.declared.estimate.Estimate.{Estimate}
 use Rattle.estimator.specs.Est.{Est, start_est, judged_est, set_est, estimate, found}
 use Rattle.send_core.specs.declared.call.Call.{Call}
 use Rattle.send_core.specs.declared.call.Call.TheVariants.{Report, Configure}
@@ -39,10 +40,8 @@ abbrev pub pacing_rate : List Entry → ℕ
 pacing_rate history = pacing_of (target history) (settings history).pacing_percent
 
 -- the rates that a reply tells
+abbrev pub rates_told : Estimate → ℕ → Rates
+rates_told told percent = record { delay = told.delay; loss = told.loss; target = told.target; pacing = pacing_of told.target percent }
+
 abbrev pub rates_of : Est → ℕ → Rates
-rates_of e percent = record {
-  delay = (estimate e).delay;
-  loss = (estimate e).loss;
-  target = (estimate e).target;
-  pacing = pacing_of (estimate e).target percent;
-}
+rates_of e percent = rates_told (estimate e) percent

@@ -9,3 +9,5 @@ pub mod Wires
 pub mod Places
 pub mod Settled
 pub mod Stands
+pub mod Outcomes
+pub mod Planning

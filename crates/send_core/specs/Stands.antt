@@ -13,6 +13,7 @@ use Rattle.sent_history.specs.Kept as history_kept
 use Rattle.probe_clusters.specs.Deeds.{Deed, IsWithin, rates}
 use Rattle.probe_clusters.specs.Deeds as probes
 use Rattle.estimator.specs.Est.{Est}
+use Rattle.estimator.specs.Kept.{IsUntil}
 use Rattle.estimator.specs.Kept as estimator
 use Rattle.pacer.specs.declared.pacing.Pacing.{Pacing}
 use Rattle.pacer.specs.declared.sent.Sent.{Sent}
@@ -75,7 +76,7 @@ pub record Laws (history : List Entry) : Type 0 where
   pub within : IsWithin (length (sent history)) (length (est history).credits) (cluster_deeds history)
   pub few_credits : length (est history).credits ≤ length (sent history)
   pub judged : (est history).reports ≤ length history
-  pub moment : (est history).moment ≤ now history
+  pub until : IsUntil (now history) (est history)
 
 -- ---- the parts
 

@@ -85,10 +85,13 @@ fn has_extension(fixed: bool, settings: &Settings, change: &Change) -> bool
     }
 }
 
+/// The most clusters that a change plans.
+pub const MOST_PLANS: u32 = 3;
+
 /// How many clusters a change plans.
 pub fn count_plans(started: bool, change: &Change) -> u32
     ensures count { result ≡ length (plans started change.now) }
-    ensures few { result ≤ 3 }
+    ensures few { result ≤ MOST_PLANS }
 {
     let first = if !started && change.start.is_some() { 2 } else { 0 };
     let probe = if change.probe.is_some() { 1 } else { 0 };

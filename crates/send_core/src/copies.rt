@@ -1,13 +1,11 @@
 //! The two copies of a reply: one for the journal, one for the caller.
 
-ghost use Rattle.std.specs.Prelude.{◌≡◌, ◌≤◌, [], length, min, IfOk};
+ghost use Rattle.std.specs.Prelude.{◌≡◌, ◌≤◌, [], length, IfOk};
 ghost use Rattle.gcc_units.specs.Listed.{bare};
-ghost use Rattle.send_core.specs.History.{sent_by};
-ghost use Rattle.send_core.specs.Settled.{IsSettled, credits_by, shares_by};
+ghost use Rattle.send_core.specs.Settled.{IsSettled, HasRoom};
 
 use crate::call::Reply;
-use gcc_units::{CreditList, Judged, MOST_SENDS, NoMemory, ShareList};
-use pace_queues::Queues;
+use gcc_units::{CreditList, Judged, NoMemory, ShareList};
 use pacer::SentList;
 use std::alloc::Global;
 
@@ -17,13 +15,6 @@ pub struct Rooms {
     pub sent: SentList,
     pub received: CreditList,
     pub shares: ShareList,
-}
-
-/// How many records a pace makes at the most.
-pub fn most_sends(queues: &Queues) -> u32
-    ensures { result ≡ min MOST_SENDS (length queues.now) }
-{
-    MOST_SENDS.min(queues.len())
 }
 
 /// Room for so many records, credits and shares.
@@ -87,12 +78,7 @@ fn twin_shares(shares: &ShareList, room: ShareList) -> ShareList
 /// The same reply once more, in room that was reserved.
 pub fn twin(reply: &Reply, room: Rooms) -> Reply
     requires settled { IsSettled reply.now }
-    requires no_records { room.sent.items ≡ [] }
-    requires no_credits { room.received.items ≡ [] }
-    requires no_shares { room.shares.items ≡ [] }
-    requires records { length (sent_by reply.now) ≤ room.sent.spare }
-    requires credits { length (credits_by reply.now) ≤ room.received.spare }
-    requires shares { length (shares_by reply.now) ≤ room.shares.spare }
+    requires room { HasRoom reply.now room }
     ensures { result ≡ reply.now }
 {
     match reply {

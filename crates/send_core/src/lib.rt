@@ -7,7 +7,9 @@ mod checks;
 mod copies;
 mod journal;
 mod parts;
+mod planning;
 mod recording;
+mod telling;
 mod settings;
 
 pub use call::{Answer, ApplyFault, Call, Cause, Change, Entry, Rates, Reply};

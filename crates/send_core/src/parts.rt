@@ -2,13 +2,15 @@
 
 ghost use Rattle.std.specs.Prelude.{◌≡◌, ◌≤◌, ◌<◌, [], List, length, max, OnErr, IfOk};
 
-use crate::call::{Call, Cause, Change, Rates, Reply};
-use crate::checks::{count_plans, fault_of};
+use crate::call::{Call, Cause, Change, Reply};
+use crate::checks::{MOST_PLANS, fault_of};
 use crate::copies::{Rooms, room};
 use crate::recording::record_sent;
+use crate::planning::plan_all;
+use crate::telling::{rates_of, shares_of};
 use crate::settings::{Settings, pacing_of};
-use allocator::{StreamSet, allocate};
-use estimator::{Estimate, Estimator};
+use allocator::StreamSet;
+use estimator::Estimator;
 use gcc_units::{
     Bytes, Class, GREATEST_MOMENT, GREATEST_RATE, Judged, MOST_SENDS, MOST_STREAMS, Moment,
     NoMemory, ShareList,
@@ -45,7 +47,13 @@ impl Parts {
     ghost use Rattle.pacer.specs.State.{advanced, tuned};
     ghost use Rattle.send_core.specs.History.{sent_by};
     ghost use Rattle.send_core.specs.Reply.{reply};
-    ghost use Rattle.send_core.specs.Settled.{IsSettled, credits_by, shares_by};
+    ghost use Rattle.std.specs.Option.{ForSome};
+    ghost use Rattle.gcc_units.specs.Rates.{IsRate};
+    ghost use Rattle.send_core.specs.Outcomes.{TakesJudged, Credits, Configures};
+    ghost use Rattle.send_core.specs.Planning.{CanPlan};
+    ghost use Rattle.send_core.specs.Reply.{standing};
+    ghost use Rattle.send_core.specs.Settings.{fault_of, plans, settings_after};
+    ghost use Rattle.send_core.specs.Settled.{IsSettled, HasRoom, shares_by};
     ghost use Rattle.send_core.specs.Stands.{StandsFor, StandsForShort, Steps, pacing_for, AreSettings};
 
     // Time passes up to a moment.
@@ -151,5 +159,139 @@ impl Parts {
         self.tune();
         sent.settle();
         Reply::Paced { at: moment, sent }
+    }
+
+    /// A report came. At `NoMemory` nothing has changed. Beside the reply comes room for its lists once
+    /// more.
+    fn report(
+        &mut self,
+        alloc: Global,
+        at: u64,
+        bytes: &Bytes,
+    ) -> Result<(Reply, Rooms), NoMemory>
+        requires { StandsForShort self.old }
+        ensures answer { IfOk result (λ r. (history : List Entry) → StandsFor self.old history → r.0 ≡ reply history (call_kind.Report at bytes.now)) }
+        ensures steps { IfOk result (λ r. Steps (call_kind.Report at bytes.now) r.0 self.old self.new) }
+        ensures settled { IfOk result (λ r. IsSettled r.0) }
+        ensures room { IfOk result (λ r. HasRoom r.0 r.1) }
+        ensures err { OnErr result (self.new ≡ self.old) }
+    {
+        if at > GREATEST_MOMENT {
+            let rooms = room(alloc, 0, 0, 0)?;
+            return Ok((self.refuse_late(), rooms));
+        }
+        let report = match read_report(alloc, bytes.as_slice()) {
+            Ok(report) => report,
+            Err(ReadReport::NoMemory) => return Err(NoMemory),
+            Err(ReadReport::Fault(fault)) => {
+                let rooms = room(alloc, 0, 0, 0)?;
+                self.move_to(at);
+                return Ok((self.refuse(Cause::Report(fault)), rooms));
+            }
+        };
+        let rooms = room(alloc, 0, report.statuses.len(), MOST_STREAMS)?;
+        let shares = room(alloc, 0, 0, MOST_STREAMS)?.shares;
+        let judged = self.history.credit(alloc, &report)?;
+        self.move_to(at);
+        Ok((self.credited(judged, shares), rooms))
+    }
+
+    // What follows of a report that was judged.
+    fn credited(&mut self, judged: Judged, room: ShareList) -> Reply
+        requires set { AreSettings self.old.settings }
+        requires judged { TakesJudged self.old judged }
+        requires empty { room.items ≡ [] }
+        requires room { MOST_STREAMS ≤ room.spare }
+        ensures credits { Credits judged result self.old self.new }
+        ensures shares { length (shares_by result) ≤ MOST_STREAMS }
+    {
+        let estimate = self.estimator.judge(
+            &judged,
+            &mut self.clusters,
+            self.pacer.moment(),
+            self.settings.bounds,
+        );
+        self.tune();
+        Reply::Credited {
+            at: self.pacer.moment(),
+            judged,
+            signal: estimate.signal,
+            m: estimate.m,
+            acked: estimate.acked,
+            rates: rates_of(&estimate, self.settings.pacing_percent),
+            shares: shares_of(estimate.target, &self.streams, room),
+        }
+    }
+
+    /// Settings are changed. At `NoMemory` nothing has changed. Beside the reply comes room for its lists
+    /// once more.
+    fn configure(
+        &mut self,
+        alloc: Global,
+        at: u64,
+        change: &Change,
+    ) -> Result<(Reply, Rooms), NoMemory>
+        requires { StandsForShort self.old }
+        ensures answer { IfOk result (λ r. (history : List Entry) → StandsFor self.old history → r.0 ≡ reply history (call_kind.Configure at change.now)) }
+        ensures steps { IfOk result (λ r. Steps (call_kind.Configure at change.now) r.0 self.old self.new) }
+        ensures settled { IfOk result (λ r. IsSettled r.0) }
+        ensures room { IfOk result (λ r. HasRoom r.0 r.1) }
+        ensures err { OnErr result (self.new ≡ self.old) }
+    {
+        let rooms = room(alloc, 0, 0, MOST_STREAMS)?;
+        if at > GREATEST_MOMENT {
+            return Ok((self.refuse_late(), rooms));
+        }
+        if let Some(check) = self.fault_of(change) {
+            self.move_to(at);
+            return Ok((self.refuse(Cause::Config(check)), rooms));
+        }
+        let shares = room(alloc, 0, 0, MOST_STREAMS)?.shares;
+        let streams = self
+            .streams
+            .changed(alloc, &change.streams, &change.removed)?;
+        self.clusters.reserve(MOST_PLANS)?;
+        self.move_to(at);
+        Ok((self.configured(change, streams, shares), rooms))
+    }
+
+    // The first check that a change fails.
+    fn fault_of(&self, change: &Change) -> Option<u32>
+        requires { StandsForShort self.now }
+        ensures { (history : List Entry) → StandsFor self.now history → result ≡ fault_of (standing history) change.now }
+    {
+        let fixed = self.accepted > 0 || self.history.sent() > 0;
+        let waiting = self.clusters.waiting();
+        fault_of(
+            fixed,
+            &self.settings,
+            &self.streams,
+            waiting,
+            self.started,
+            change,
+        )
+    }
+
+    // What follows of a change that passed the checks.
+    fn configured(&mut self, change: &Change, streams: StreamSet, room: ShareList) -> Reply
+        requires set { AreSettings (settings_after self.old.settings change.now) }
+        requires start { ForSome change.now.start IsRate }
+        requires plans { CanPlan self.old.clusters (plans self.old.started change.now) }
+        requires empty { room.items ≡ [] }
+        requires room { MOST_STREAMS ≤ room.spare }
+        ensures configures { Configures change.now streams result self.old self.new }
+        ensures shares { length (shares_by result) ≤ MOST_STREAMS }
+    {
+        plan_all(&mut self.clusters, self.started, change);
+        self.started = self.started || change.start.is_some();
+        self.streams = streams;
+        self.settings = self.settings.after(change);
+        let estimate = self.estimator.set(change.start, self.settings.bounds);
+        self.tune();
+        Reply::Configured {
+            at: self.pacer.moment(),
+            rates: rates_of(&estimate, self.settings.pacing_percent),
+            shares: shares_of(estimate.target, &self.streams, room),
+        }
     }
 }

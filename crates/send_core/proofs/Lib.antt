@@ -4,3 +4,7 @@ pub mod PlacesFound
 pub mod Recorded
 pub mod StepsMade
 pub mod PaceMade
+pub mod OutcomesMade
+pub mod Checking
+pub mod Judging
+pub mod Configuring

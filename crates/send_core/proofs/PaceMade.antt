@@ -8,7 +8,9 @@ use Rattle.pace_budget.specs.Steps.{step, level-step}
 use Rattle.pace_queues.specs.declared.ticket.Ticket.{Ticket}
 use Rattle.sent_history.specs.declared.TheConstants.{MOST_REPORTS}
 use Rattle.sent_history.specs.Events.{Event, packets}
+use Rattle.sent_history.specs.Balance.{HasFewStatuses}
 use Rattle.sent_history.specs.Kept as history_kept
+use Rattle.std.proofs.lemmas.List.Elements.{All-nil}
 use Rattle.probe_clusters.specs.declared.cluster.Cluster.{Cluster}
 use Rattle.probe_clusters.specs.Deeds.{clusters}
 use Rattle.probe_clusters.specs.Deeds as probes
@@ -34,6 +36,7 @@ use Rattle.send_core.specs.Levels as levels
 use Rattle.send_core.specs.Reply.{reply, terms_at, standing_at}
 use Rattle.send_core.specs.Stands.{StandsFor, Steps, pacing_for}
 use Rattle.send_core.specs.Recording.{TakesSent}
+use Rattle.send_core.proofs.Recorded.{reports-added}
 use Rattle.send_core.proofs.StepsMade.{later-in_time}
 
 -- ---- the pacer after time has passed
@@ -167,4 +170,5 @@ steps_paced at moment number out given s cs hist p x q early moves leaves counts
       streams = refl;
       settings = refl;
       started = or-no p.started;
+      few_statuses = rw (reports-added (max p.pacer.moment at) out) (All-nil HasFewStatuses);
     }

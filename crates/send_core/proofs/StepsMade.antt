@@ -13,6 +13,7 @@ use Rattle.allocator.specs.declared.stream.Stream.{Stream}
 use Rattle.pace_budget.specs.Level.{Deed}
 use Rattle.pace_queues.specs.declared.ticket.Ticket.{Ticket}
 use Rattle.sent_history.specs.Events.{Event}
+use Rattle.sent_history.specs.Balance.{HasFewStatuses}
 use Rattle.sent_history.specs.Kept as history_kept
 use Rattle.probe_clusters.specs.Deeds as probes
 use Rattle.estimator.specs.Est.{Est}
@@ -98,6 +99,7 @@ steps_moved call given p moment n clock = record {
   streams = sym (n.streams p.streams);
   settings = sym (n.settings p.settings);
   started = rw n.starts (or-no p.started);
+  few_statuses = rw n.events (All-nil HasFewStatuses);
 }
 
 -- refused by its moment
@@ -140,6 +142,7 @@ steps_accepted at class wire size moment moment_two index s p x q early sized mo
       streams = refl;
       settings = refl;
       started = or-no p.started;
+      few_statuses = All-nil HasFewStatuses;
     })
 
 -- refused where as many wait as may

@@ -9,6 +9,7 @@ use Rattle.pace_budget.specs.Level as bucket
 use Rattle.pace_budget.specs.Steps.{step}
 use Rattle.sent_history.specs.declared.slot.Outgoing.{Outgoing}
 use Rattle.sent_history.specs.Events.{Event, packets, reports, last_sent_at}
+use Rattle.sent_history.specs.Balance.{HasFewStatuses}
 use Rattle.sent_history.specs.Kept as history_kept
 use Rattle.probe_clusters.specs.Deeds.{Deed, IsWithin, rates}
 use Rattle.probe_clusters.specs.Deeds as probes
@@ -72,6 +73,7 @@ pub record Laws (history : List Entry) : Type 0 where
   pub outgoing : All (IsOutgoing (now history) (length (rates (cluster_deeds history)))) (packets (events history))
   pub number : length (packets (events history)) ≡ length (sent history)
   pub few_reports : length (reports (events history)) ≤ length history
+  pub few_statuses : All HasFewStatuses (reports (events history))
   pub last : last_sent_at (events history) ≤ now history
   pub within : IsWithin (length (sent history)) (length (est history).credits) (cluster_deeds history)
   pub few_credits : length (est history).credits ≤ length (sent history)
@@ -128,6 +130,7 @@ pub record Steps (call : Call) (given : Reply) (before after : Parts) : Type 0 w
   pub streams : after.streams ≡ streams_by before.streams call given
   pub settings : after.settings ≡ settings_by before.settings call given
   pub started : after.started ≡ (before.started || starts_by call given)
+  pub few_statuses : All HasFewStatuses (reports (events_by call given))
 
 -- they stand for a history that may get one more entry
 abbrev pub StandsForShort : Parts → Type 0

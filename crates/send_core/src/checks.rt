@@ -1,6 +1,6 @@
 //! The checks of a change.
 
-ghost use Rattle.std.specs.Prelude.{◌≡◌, ◌≤◌, ◌&&◌, nat_le, length};
+ghost use Rattle.std.specs.Prelude.{◌≡◌, ◌≤◌, ◌+◌, ◌&&◌, nat_le, nat_lt, length};
 ghost use Rattle.send_core.specs.Settings.{is_rate, passes, has_rates, has_bounds, has_pacing, has_extension, plans, fault_of};
 
 use crate::call::Change;
@@ -98,6 +98,13 @@ pub fn count_plans(started: bool, change: &Change) -> u32
     first + probe
 }
 
+/// Whether a packet was accepted or sent.
+pub fn has_any(accepted: u32, sent: u64) -> bool
+    ensures { result ≡ nat_lt 0 (accepted + sent) }
+{
+    accepted > 0 || sent > 0
+}
+
 /// The first check that a change fails, if it fails one.
 pub fn fault_of(
     fixed: bool,
@@ -107,7 +114,6 @@ pub fn fault_of(
     started: bool,
     change: &Change,
 ) -> Option<u32>
-    requires few { waiting ≤ MOST_CLUSTERS }
     ensures { result ≡ fault_of (record { fixed = fixed; settings = settings.now; streams = streams.now; waiting = waiting; started = started }) change.now }
 {
     if !has_rates(change) {
@@ -131,7 +137,7 @@ pub fn fault_of(
     if streams.len_after(&change.streams, &change.removed) > u64::from(MOST_STREAMS) {
         return Some(7);
     }
-    if waiting + count_plans(started, change) > MOST_CLUSTERS {
+    if u64::from(waiting) + u64::from(count_plans(started, change)) > u64::from(MOST_CLUSTERS) {
         return Some(8);
     }
     None

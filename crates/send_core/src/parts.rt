@@ -3,7 +3,7 @@
 ghost use Rattle.std.specs.Prelude.{◌≡◌, ◌≤◌, ◌<◌, [], List, length, max, OnErr, IfOk};
 
 use crate::call::{Call, Cause, Change, Reply};
-use crate::checks::{MOST_PLANS, fault_of};
+use crate::checks::{MOST_PLANS, fault_of, has_any};
 use crate::copies::{Rooms, room};
 use crate::recording::record_sent;
 use crate::planning::plan_all;
@@ -48,12 +48,13 @@ impl Parts {
     ghost use Rattle.send_core.specs.History.{sent_by};
     ghost use Rattle.send_core.specs.Reply.{reply};
     ghost use Rattle.std.specs.Option.{ForSome};
+    ghost use Rattle.gcc_units.specs.Listed.{bare};
     ghost use Rattle.gcc_units.specs.Rates.{IsRate};
     ghost use Rattle.send_core.specs.Outcomes.{TakesJudged, Credits, Configures};
     ghost use Rattle.send_core.specs.Planning.{CanPlan};
     ghost use Rattle.send_core.specs.Reply.{standing};
     ghost use Rattle.send_core.specs.Settings.{fault_of, plans, settings_after};
-    ghost use Rattle.send_core.specs.Settled.{IsSettled, HasRoom, shares_by};
+    ghost use Rattle.send_core.specs.Settled.{IsSettled, HasRoom, credits_by, shares_by};
     ghost use Rattle.send_core.specs.Stands.{StandsFor, StandsForShort, Steps, pacing_for, AreSettings};
 
     // Time passes up to a moment.
@@ -202,7 +203,11 @@ impl Parts {
         requires judged { TakesJudged self.old judged }
         requires empty { room.items ≡ [] }
         requires room { MOST_STREAMS ≤ room.spare }
+        requires settled { judged.received ≡ bare judged.received.items }
         ensures credits { Credits judged result self.old self.new }
+        ensures settled { IsSettled result }
+        ensures sends { sent_by result ≡ [] }
+        ensures received { credits_by result ≡ judged.received.items }
         ensures shares { length (shares_by result) ≤ MOST_STREAMS }
     {
         let estimate = self.estimator.judge(
@@ -260,7 +265,7 @@ impl Parts {
         requires { StandsForShort self.now }
         ensures { (history : List Entry) → StandsFor self.now history → result ≡ fault_of (standing history) change.now }
     {
-        let fixed = self.accepted > 0 || self.history.sent() > 0;
+        let fixed = has_any(self.accepted, self.history.sent());
         let waiting = self.clusters.waiting();
         fault_of(
             fixed,
@@ -280,6 +285,9 @@ impl Parts {
         requires empty { room.items ≡ [] }
         requires room { MOST_STREAMS ≤ room.spare }
         ensures configures { Configures change.now streams result self.old self.new }
+        ensures settled { IsSettled result }
+        ensures sends { sent_by result ≡ [] }
+        ensures received { credits_by result ≡ [] }
         ensures shares { length (shares_by result) ≤ MOST_STREAMS }
     {
         plan_all(&mut self.clusters, self.started, change);

@@ -4,3 +4,4 @@ pub mod PlacesFound
 pub mod Recorded
 pub mod StepsMade
 pub mod PaceMade
+pub mod LawsKept

@@ -5,3 +5,4 @@ pub mod Recorded
 pub mod StepsMade
 pub mod PaceMade
 pub mod LawsKept
+pub mod Standing

@@ -1,6 +1,5 @@
 -- One more entry keeps the laws of a history.
-use Rattle.std.proofs.Common.{◌≡◌, ℕ, suc, zero, ◌+◌, ◌*◌, ◌<◌, ◌≤◌, ◌&&◌, ◌||◌, ◌==◌, Bool, true, false, not, cond, nat_lt, nat_le, max, Option, None, Some, unwrap_or, Result, Ok, Err, List, [], ◌∷◌, ◌++◌, length, map, fold, count_by, All, slice_get, slice_index, get_or, take, drop, inl, inr, ◌/◌, ◌%◌, refl, sym, ◌∙◌, ap, subst, arith, length-append, append_assoc, lt-ltb, le-ltb, eqb-true, length-take}
-use Rattle.std.specs.List.{flat_map}
+use Rattle.std.proofs.Common.{◌≡◌, ℕ, suc, zero, ◌+◌, ◌*◌, ◌<◌, ◌≤◌, ◌&&◌, ◌||◌, ◌==◌, Bool, true, false, not, cond, nat_lt, nat_le, max, Option, None, Some, unwrap_or, Result, Ok, Err, List, [], ◌∷◌, ◌++◌, length, map, fold, count_by, All, slice_get, slice_index, get_or, take, drop, inl, inr, ◌/◌, ◌%◌, refl, sym, ◌∙◌, ap, subst, arith, length-append, append_assoc, eqb-true, length-take}
 use Rattle.std.proofs.lemmas.List.{append-nil, length-map, get_or_past}
 use Rattle.std.proofs.lemmas.List.Sums.{sum_by-append}
 use Rattle.std.proofs.lemmas.List.Elements.{All-nil, All-cons, All-head, All-tail, All-append, All-weaker, All-map, All-filter, All-get_or}
@@ -9,9 +8,7 @@ use Rattle.std.proofs.lemmas.Bool.Decides.{nat_tests}
 use Rattle.std.proofs.lemmas.Grind.{flat_map-append}
 use Rattle.gcc_units.specs.declared.class.Class.{Class}
 use Rattle.gcc_units.specs.declared.limits.TheConstants.{LEAST_RATE, GREATEST_RATE, GREATEST_MOMENT, GREATEST_PACKET, MOST_SENDS, MOST_WAITING}
-use Rattle.gcc_units.specs.declared.shared_types.Bounds.{Bounds}
 use Rattle.gcc_units.specs.declared.shared_types.Credit.{Credit}
-use Rattle.gcc_units.specs.Rates.{IsBounds}
 use Rattle.gcc_units.specs.Listed.{Listed, bare}
 use Rattle.rtp_wire.specs.declared.packet.WireFault.{WireFault}
 use Rattle.rtp_wire.specs.Place.{place_of}
@@ -22,24 +19,22 @@ use Rattle.twcc_report.specs.Chunks.{all_symbols, behind_chunks}
 use Rattle.twcc_report.specs.Spelling.{Feedback, number16}
 use Rattle.twcc_report.specs.Reading.{◌>>=◌, header_at, symbols_in, unreserved, status_at, statuses_at, end_at, read_of}
 use Rattle.pace_budget.specs.declared.bucket.TheConstants.{GREATEST_WINDOW}
-use Rattle.pace_queues.specs.declared.ticket.Ticket.{Ticket}
 use Rattle.sent_history.specs.declared.slot.Outgoing.{Outgoing}
-use Rattle.sent_history.specs.Events.{Event, added, reported, packet_in, report_in, packets, reports, last_sent_at}
+use Rattle.sent_history.specs.Events.{Event, packet_in, report_in, packets, reports}
 use Rattle.sent_history.specs.Crediting.{account, credits_in, judged, told, IsOfPacket}
 use Rattle.sent_history.specs.Balance.{HasFewStatuses}
 use Rattle.sent_history.specs.Pushes.{added_credited, reported_credited}
 use Rattle.sent_history.specs.Laws.{judged_of_packets, credited_few}
 use Rattle.probe_clusters.specs.declared.probes.Outcome.{Outcome}
 use Rattle.probe_clusters.specs.Deeds.{Deed, Plan, Note, Send, rate_by, rates, clusters_from, clusters, is_send, is_note, IsSizeWithin, IsWithin, takings}
-use Rattle.estimator.specs.Signals.{IsSentBy}
 use Rattle.estimator.specs.Kept.{IsUntil}
 use Rattle.estimator.specs.Laws.{until-start, until-later, until-judged, until-set}
-use Rattle.estimator.specs.Est.{Est, start_est, found}
+use Rattle.estimator.specs.Est.{Est, found}
 use Rattle.pacer.specs.declared.sent.Sent.{Sent}
 use Rattle.pacer.specs.declared.sent.Kind.{Kind}
 use Rattle.pacer.specs.declared.sent.Kind.TheVariants as kind
-use Rattle.pacer.specs.Course.{IsSmall, probe_as, probe_by, probes_of}
-use Rattle.pacer.specs.Pace.{NamesBelow, names, paced}
+use Rattle.pacer.specs.Course.{IsSmall, probe_as, probes_of}
+use Rattle.pacer.specs.Pace.{NamesBelow, paced}
 use Rattle.pacer.specs.Sends.{paced-few, paced-known, IsSmallRecord, paced-small, IsForPlanned, paced-planned}
 use Rattle.pacer.specs.Sends as sends
 use Rattle.send_core.specs.declared.call.Call.{Call}
@@ -517,8 +512,12 @@ laws_after h e laws adds more =
     let moment : now after ≡ later (now h) e.call = now-push h e in
     let deeds : cluster_deeds after ≡ cluster_deeds h ++ deeds_by (started h) (cluster_deeds h) e.call e.reply = cluster_deeds-push h e in
     let plans_more : length (rates (cluster_deeds h)) ≤ length (rates (cluster_deeds after)) =
-    omega (arith, ap (λ ds. length (rates ds)) deeds, ap (length {A = ℕ}) (rates-append (cluster_deeds h) (deeds_by (started h) (cluster_deeds h) e.call e.reply)),
-    length-append (rates (cluster_deeds h)) (rates (deeds_by (started h) (cluster_deeds h) e.call e.reply))) in
+    omega (
+      arith,
+      ap (λ ds. length (rates ds)) deeds,
+      ap (length {A = ℕ}) (rates-append (cluster_deeds h) (deeds_by (started h) (cluster_deeds h) e.call e.reply)),
+      length-append (rates (cluster_deeds h)) (rates (deeds_by (started h) (cluster_deeds h) e.call e.reply)),
+    ) in
     let new_packets : packets (events after) ≡ packets (events h) ++ packets (events_by e.call e.reply) =
     ap packets (events-push h e) ∙ packets-append (events h) (events_by e.call e.reply) in
     let new_reports : reports (events after) ≡ reports (events h) ++ reports (events_by e.call e.reply) =

@@ -1,11 +1,10 @@
 -- What one more entry does to the lists and numbers of a history.
-use Rattle.std.proofs.Common.{◌≡◌, ℕ, ℤ, pos, suc, ◌+◌, ◌≤◌, ◌||◌, Bool, true, false, Option, None, Some, List, [], ◌∷◌, ◌++◌, length, All, refl, ◌∙◌, ap, arith, length-append, get_or}
+use Rattle.std.proofs.Common.{◌≡◌, ℕ, pos, suc, ◌+◌, ◌≤◌, ◌||◌, Bool, true, false, Option, None, Some, List, [], ◌∷◌, ◌++◌, length, All, refl, ◌∙◌, ap, arith, length-append, get_or}
 use Rattle.std.specs.List.{list_any}
 use Rattle.std.proofs.lemmas.List.Sums.{fold-append}
 use Rattle.std.proofs.lemmas.List.Folds.{list_any-append}
 use Rattle.std.proofs.lemmas.List.Elements.{All-nil, All-cons, All-filter}
 use Rattle.gcc_units.specs.Walk.{walk-push, flat_map-push, flat_each-push}
-use Rattle.allocator.specs.declared.stream.Stream.{Stream}
 use Rattle.probe_clusters.specs.Deeds.{Deed}
 use Rattle.estimator.specs.Est.{Est, start_est}
 use Rattle.pace_queues.specs.declared.ticket.Ticket.{Ticket}

@@ -1,11 +1,10 @@
 -- The parts that stood for a history stand for it with one more entry.
-use Rattle.std.proofs.Common.{◌≡◌, ℕ, ℤ, pos, neg_ℤ, ◌+◌, ◌-◌, ◌*◌, ◌||◌, Bool, List, [], ◌∷◌, ◌++◌, length, fold, min, refl, sym, ◌∙◌, ap, subst, length-append}
+use Rattle.std.proofs.Common.{◌≡◌, ℕ, ◌+◌, ◌-◌, ◌||◌, List, [], ◌∷◌, ◌++◌, length, fold, min, sym, ◌∙◌, ap, subst, length-append}
 use Rattle.pace_budget.specs.Level.{Deed, Advance}
 use Rattle.pace_budget.specs.Level as bucket
 use Rattle.pace_budget.specs.Steps.{step, StandsFor-steps}
 use Rattle.sent_history.specs.Kept as history_kept
 use Rattle.probe_clusters.specs.Deeds as probes
-use Rattle.estimator.specs.Est.{Est}
 use Rattle.estimator.specs.Kept as estimator
 use Rattle.rate_control.specs.declared.state.State as control_state
 use Rattle.loss_control.specs.declared.step.State as loss_state
@@ -20,9 +19,9 @@ use Rattle.send_core.specs.declared.call.Entry.{Entry}
 use Rattle.send_core.specs.declared.parts.Parts.{Parts}
 use Rattle.send_core.specs.declared.settings.Settings.{Settings}
 use Rattle.send_core.specs.History.{AcceptedPacket, entry, later, now, accepted_by, accepted, tickets_from, sent_by, waiting}
-use Rattle.send_core.specs.Settings.{settings_by, settings, streams_by, starts_by, started}
-use Rattle.send_core.specs.Reports.{events_by, events, deeds_by, cluster_deeds}
-use Rattle.send_core.specs.Estimates.{est_by, est, target, pacing_of}
+use Rattle.send_core.specs.Settings.{settings_by, settings, streams_by, starts_by}
+use Rattle.send_core.specs.Reports.{events, deeds_by, cluster_deeds}
+use Rattle.send_core.specs.Estimates.{est_by, est, pacing_of}
 use Rattle.send_core.specs.Levels.{rate, window, padding_rate, passing, padding_passing, floor, padding, deeds}
 use Rattle.send_core.specs.Levels as levels
 use Rattle.send_core.specs.Reply.{reply}

@@ -1,5 +1,5 @@
 -- What the checks of a change look at, by the parts.
-use Rattle.std.proofs.Common.{◌≡◌, ℕ, ◌+◌, ◌*◌, ◌≤◌, ◌&&◌, Bool, true, false, not, cond, nat_lt, nat_le, min, unwrap_or, List, [], ◌∷◌, ◌++◌, length, count_by, All, Option, None, Some, refl, sym, ◌∙◌, ap, subst, arith}
+use Rattle.std.proofs.Common.{◌≡◌, ℕ, ◌+◌, ◌*◌, ◌≤◌, ◌&&◌, Bool, true, false, not, cond, nat_lt, nat_le, min, unwrap_or, List, [], ◌∷◌, ◌++◌, length, count_by, All, Option, None, Some, refl, ◌∙◌, ap, subst, arith}
 use Rattle.std.specs.Prelude.{if◌then◌else◌}
 use Rattle.std.specs.Option.{ForSome}
 use Rattle.std.proofs.lemmas.Bool.Decides.{nat_tests}

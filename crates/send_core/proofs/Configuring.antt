@@ -1,5 +1,5 @@
 -- The reply to a change of settings, and what it does to the parts.
-use Rattle.std.proofs.Common.{◌≡◌, ℕ, ◌+◌, ◌<◌, ◌≤◌, ◌||◌, Bool, true, false, cond, Option, None, Some, List, [], ◌∷◌, ◌++◌, length, map, max, All, le-ltb, refl, sym, ◌∙◌, ap, subst, arith}
+use Rattle.std.proofs.Common.{◌≡◌, ℕ, ◌≤◌, ◌||◌, Bool, true, false, cond, Option, None, Some, List, [], ◌++◌, map, max, le-ltb, refl, sym, ◌∙◌, ap, subst, arith}
 use Rattle.std.proofs.lemmas.List.{append-nil}
 use Rattle.std.proofs.lemmas.List.Elements.{All-nil}
 use Rattle.gcc_units.specs.declared.limits.TheConstants.{GREATEST_MOMENT}
@@ -9,12 +9,11 @@ use Rattle.allocator.specs.declared.stream.Stream.{Stream}
 use Rattle.allocator.specs.Shares.{shares}
 use Rattle.allocator.specs.Streams.{changed}
 use Rattle.pacer.specs.Records.{unsent-none}
-use Rattle.pacer.specs.State.{State, advanced, tuned}
+use Rattle.pacer.specs.State.{advanced, tuned}
 use Rattle.probe_clusters.specs.declared.cluster.Cluster.{Cluster}
 use Rattle.probe_clusters.specs.Deeds.{Deed, Plan}
 use Rattle.probe_clusters.specs.Deeds as probes
 use Rattle.sent_history.specs.Balance.{HasFewStatuses}
-use Rattle.sent_history.specs.Kept as history_kept
 use Rattle.estimator.specs.Est.{Est, set_est, estimate}
 use Rattle.estimator.specs.Kept as estimator
 use Rattle.send_core.specs.declared.call.Call.TheVariants as call_kind
@@ -27,9 +26,9 @@ use Rattle.send_core.specs.declared.call.Reply.TheVariants as reply_kind
 use Rattle.send_core.specs.declared.parts.Parts.{Parts}
 use Rattle.send_core.specs.declared.settings.Settings.{Settings}
 use Rattle.send_core.specs.History.{later, now}
-use Rattle.send_core.specs.Settings.{fault_of, settings, settings_after, streams, is_some, plans}
+use Rattle.send_core.specs.Settings.{fault_of, settings, settings_after, is_some, plans}
 use Rattle.send_core.specs.Estimates.{est, rates_of}
-use Rattle.send_core.specs.Outcomes.{Configures, configured_as}
+use Rattle.send_core.specs.Outcomes.{Configures}
 use Rattle.send_core.specs.Reply.{reply, standing, configured}
 use Rattle.send_core.specs.Reply as replies
 use Rattle.send_core.specs.Stands.{StandsFor, Steps, pacing_for}
@@ -72,7 +71,7 @@ configured-answer h p x q at change found ss cs given s early moves is passes st
     ∙ (ap (λ n. told_by change (est h) n p.settings ss) when
     ∙ (ap (λ t. told_by change (est h) (later (now h) (call_kind.Configure at change)) t ss) s.set
     ∙ (ap (λ ys. told_by change (est h) (later (now h) (call_kind.Configure at change)) (settings h) ys)
-      (streams_are ∙ ap (λ ys. changed ys change.streams.items change.removed.items) s.streams_are)
+    (streams_are ∙ ap (λ ys. changed ys change.streams.items change.removed.items) s.streams_are)
     ∙ (ap (configured h (later (now h) (call_kind.Configure at change)) change) (sym passes)
     ∙ sym (reply-checked h at change found early is))))))
 

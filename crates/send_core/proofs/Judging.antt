@@ -1,27 +1,24 @@
 -- What was judged may go to the estimator, and the reply to a report.
-use Rattle.std.proofs.Common.{◌≡◌, ℕ, suc, ℤ, ◌+◌, ◌*◌, ◌<◌, ◌≤◌, ◌||◌, Bool, true, false, Option, None, Some, Ok, Err, Result, IfSome, List, [], ◌∷◌, ◌++◌, length, map, max, All, count_by, slice_get, get_or, cond, le-ltb, append_assoc, refl, sym, ◌∙◌, ap, subst, arith}
+use Rattle.std.proofs.Common.{◌≡◌, ℕ, suc, ℤ, ◌+◌, ◌*◌, ◌<◌, ◌≤◌, ◌||◌, Bool, true, false, Option, None, Some, Ok, IfSome, List, [], ◌∷◌, ◌++◌, length, map, max, All, slice_get, get_or, cond, le-ltb, append_assoc, refl, sym, ◌∙◌, ap, subst, arith}
 use Rattle.std.proofs.lemmas.List.{append-nil}
 use Rattle.std.proofs.lemmas.List.Elements.{All-weaker, All-nil, All-cons}
 use Rattle.std.proofs.lemmas.Option.{slice_get_within, slice_get-get_or}
-use Rattle.gcc_units.specs.declared.limits.TheConstants.{GREATEST_MOMENT, GREATEST_ARRIVAL, MOST_ENTRIES, MOST_SENDS, MOST_PACKETS}
+use Rattle.gcc_units.specs.declared.limits.TheConstants.{GREATEST_MOMENT, MOST_ENTRIES, MOST_SENDS}
 use Rattle.gcc_units.specs.declared.shared_types.Credit.{Credit}
 use Rattle.gcc_units.specs.declared.shared_types.Judged.{Judged}
 use Rattle.loss_control.specs.declared.TheConstants.{MOST_COUNT}
-use Rattle.twcc_report.specs.declared.fault.ReportFault.{ReportFault}
 use Rattle.twcc_report.specs.Spelling.{Feedback}
 use Rattle.twcc_report.specs.Reading.{read_of}
-use Rattle.sent_history.specs.declared.TheConstants.{MOST_REPORTS, MOST_STATUSES}
 use Rattle.sent_history.specs.declared.slot.Outgoing.{Outgoing}
 use Rattle.sent_history.specs.Balance.{HasFewStatuses}
 use Rattle.sent_history.specs.Events.{Event, reported, packets}
 use Rattle.sent_history.specs.Crediting.{told, judged, IsOfPacket, ArrivesInRange}
 use Rattle.sent_history.specs.Kept as history_kept
-use Rattle.acked_rate.specs.Kept as windowed
 use Rattle.probe_clusters.specs.declared.cluster.Cluster.{Cluster}
 use Rattle.probe_clusters.specs.Deeds.{Deed, Note, takings, rates, clusters, clusters_from, ReachedBy, IsWithin}
 use Rattle.probe_clusters.specs.Deeds as probes
 use Rattle.estimator.specs.Signals.{IsSentBy}
-use Rattle.estimator.specs.Report.{add_of, found, NamesPlanned, TakesNotes}
+use Rattle.estimator.specs.Report.{found, NamesPlanned}
 use Rattle.estimator.specs.Est.{Est, judged_est, estimate}
 use Rattle.estimator.specs.Kept.{IsInRange, IsUntil, TakesReport}
 use Rattle.estimator.specs.Laws.{until-later}
@@ -35,7 +32,7 @@ use Rattle.pacer.specs.Records.{unsent-none}
 use Rattle.pacer.specs.State.{State, advanced, tuned}
 use Rattle.send_core.specs.declared.call.Rates.{Rates}
 use Rattle.send_core.specs.declared.settings.Settings.{Settings}
-use Rattle.send_core.specs.Settings.{settings, streams}
+use Rattle.send_core.specs.Settings.{settings}
 use Rattle.send_core.specs.declared.call.Call.TheVariants as call_kind
 use Rattle.send_core.specs.declared.call.Cause.TheVariants as cause_kind
 use Rattle.send_core.specs.declared.call.Entry.{Entry}
@@ -43,9 +40,9 @@ use Rattle.send_core.specs.declared.call.Reply.{Reply}
 use Rattle.send_core.specs.declared.call.Reply.TheVariants as reply_kind
 use Rattle.send_core.specs.declared.parts.Parts.{Parts}
 use Rattle.send_core.specs.History.{later, now, sent}
-use Rattle.send_core.specs.Reports.{events, cluster_deeds, reported_of}
+use Rattle.send_core.specs.Reports.{events, cluster_deeds}
 use Rattle.send_core.specs.Estimates.{est, rates_of}
-use Rattle.send_core.specs.Outcomes.{TakesJudged, Credits, est_after, credited_as}
+use Rattle.send_core.specs.Outcomes.{TakesJudged, Credits}
 use Rattle.send_core.specs.Reply.{reply, credited}
 use Rattle.send_core.specs.Reply as replies
 use Rattle.send_core.specs.Stands.{IsPlanned, IsOutgoing, StandsFor, Steps, pacing_for}
@@ -189,13 +186,13 @@ steps_credited h p x q at bytes report verdict given hist s early moves read kee
     (credits.packets ∙ ap (λ (y : Parts). y.history) moves) refl refl
     (credits.streams ∙ ap (λ (y : Parts). y.streams) moves) (credits.settings ∙ ap (λ (y : Parts). y.settings) moves) (credits.started ∙ ap (λ (y : Parts). y.started) moves) in
     let estimates : (e : Est) (ds : List Deed) → estimator.StandsFor p.estimator e → probes.StandsFor p.clusters.items ds
-        → estimator.StandsFor q.estimator (judged_est e verdict.received.items verdict.missing (max p.pacer.moment at) p.settings.bounds (found ds verdict.received.items)) =
+    → estimator.StandsFor q.estimator (judged_est e verdict.received.items verdict.missing (max p.pacer.moment at) p.settings.bounds (found ds verdict.received.items)) =
     subst (λ (y : Parts). (e : Est) (ds : List Deed) → estimator.StandsFor y.estimator e → probes.StandsFor y.clusters.items ds
-      → estimator.StandsFor q.estimator (judged_est e verdict.received.items verdict.missing y.pacer.moment y.settings.bounds (found ds verdict.received.items))) moves credits.estimates in
+    → estimator.StandsFor q.estimator (judged_est e verdict.received.items verdict.missing y.pacer.moment y.settings.bounds (found ds verdict.received.items))) moves credits.estimates in
     let counts : (ds : List Deed) → probes.StandsFor p.clusters.items ds
-        → probes.StandsFor q.clusters.items ((ds ++ map Note verdict.received.items) ++ takings (found ds verdict.received.items)) =
+    → probes.StandsFor q.clusters.items ((ds ++ map Note verdict.received.items) ++ takings (found ds verdict.received.items)) =
     subst (λ (y : Parts). (ds : List Deed) → probes.StandsFor y.clusters.items ds
-      → probes.StandsFor q.clusters.items ((ds ++ map Note verdict.received.items) ++ takings (found ds verdict.received.items))) moves credits.clusters in
+    → probes.StandsFor q.clusters.items ((ds ++ map Note verdict.received.items) ++ takings (found ds verdict.received.items))) moves credits.clusters in
     subst (Steps (call_kind.Report at bytes) given p) (sym q_is)
     (rw (credits.reply (est h) (cluster_deeds h) x_est x_clusters)
     (with_values at bytes report verdict hist p q.estimator q.clusters _ _ _ _ _ _ early read keeps few estimates counts (ap (λ (y : Parts). y.pacer.moment) moves)))
@@ -205,7 +202,7 @@ steps_credited h p x q at bytes report verdict given hist s early moves read kee
         → at ≤ GREATEST_MOMENT → read_of bytes.items ≡ Ok report
         → ((es : List Event) → history_kept.StandsFor p.history es → history_kept.StandsFor hist (es ++ reported report ∷ [])) → HasFewStatuses report
         → ((e : Est) (ds : List Deed) → estimator.StandsFor p.estimator e → probes.StandsFor p.clusters.items ds
-          → estimator.StandsFor v (judged_est e verdict.received.items verdict.missing (max p.pacer.moment at) p.settings.bounds (found ds verdict.received.items)))
+        → estimator.StandsFor v (judged_est e verdict.received.items verdict.missing (max p.pacer.moment at) p.settings.bounds (found ds verdict.received.items)))
         → ((ds : List Deed) → probes.StandsFor p.clusters.items ds → probes.StandsFor cs.items ((ds ++ map Note verdict.received.items) ++ takings (found ds verdict.received.items)))
         → moment ≡ max p.pacer.moment at
         → Steps (call_kind.Report at bytes) (reply_kind.Credited moment verdict signal m acked rates given) p (judged_on p (max p.pacer.moment at) hist v cs)

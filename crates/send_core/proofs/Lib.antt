@@ -8,3 +8,9 @@ pub mod OutcomesMade
 pub mod Checking
 pub mod Judging
 pub mod Configuring
+pub mod LawsKept
+pub mod Standing
+pub mod Stamped
+pub mod Tallies
+pub mod First
+pub mod Applied

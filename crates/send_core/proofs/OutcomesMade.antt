@@ -1,36 +1,23 @@
 -- What a judged report and an accepted change do to the parts.
-use Rattle.std.proofs.Common.{◌≡◌, ℕ, ℤ, ◌+◌, ◌-◌, ◌<◌, ◌≤◌, ◌||◌, Bool, true, false, List, [], ◌∷◌, ◌++◌, length, map, max, le-ltb, append_assoc, refl, sym, ◌∙◌, ap, subst, arith}
-use Rattle.std.proofs.lemmas.List.{append-nil}
-use Rattle.gcc_units.specs.declared.limits.TheConstants.{GREATEST_MOMENT}
+use Rattle.std.proofs.Common.{◌≡◌, ℕ, ℤ, List, ◌++◌, map, refl, ◌∙◌, ap, subst}
 use Rattle.gcc_units.specs.declared.shared_types.Judged.{Judged}
 use Rattle.gcc_units.specs.declared.shared_types.Share.{Share}
 use Rattle.gcc_units.specs.Listed.{Listed, bare}
-use Rattle.allocator.specs.declared.stream.Stream.{Stream}
 use Rattle.allocator.specs.Shares.{shares}
-use Rattle.pacer.specs.Records.{unsent-none}
-use Rattle.pacer.specs.State.{State, advanced, tuned}
+use Rattle.pacer.specs.State.{tuned}
 use Rattle.probe_clusters.specs.declared.cluster.Cluster.{Cluster}
 use Rattle.probe_clusters.specs.Deeds.{Deed, Plan, Note, takings}
 use Rattle.probe_clusters.specs.Deeds as probes
-use Rattle.sent_history.specs.Events.{Event, reported}
-use Rattle.sent_history.specs.Kept as history_kept
 use Rattle.estimator.specs.declared.estimate.Estimate.{Estimate}
 use Rattle.estimator.specs.Report.{found}
-use Rattle.estimator.specs.Est.{Est, judged_est, set_est, estimate}
+use Rattle.estimator.specs.Est.{Est, judged_est, estimate}
 use Rattle.estimator.specs.Kept as estimator
-use Rattle.send_core.specs.declared.call.Call.{Call}
-use Rattle.send_core.specs.declared.call.Call.TheVariants as call_kind
-use Rattle.send_core.specs.declared.call.Change.{Change}
 use Rattle.send_core.specs.declared.call.Rates.{Rates}
-use Rattle.send_core.specs.declared.call.Reply.{Reply}
 use Rattle.send_core.specs.declared.call.Reply.TheVariants as reply_kind
 use Rattle.send_core.specs.declared.parts.Parts.{Parts}
-use Rattle.send_core.specs.History.{later}
-use Rattle.send_core.specs.Settings.{settings_after, is_some, plans}
 use Rattle.send_core.specs.Estimates.{rates_told}
-use Rattle.send_core.specs.Outcomes.{Credits, Configures, est_after, credited_as, configured_as}
-use Rattle.send_core.specs.Stands.{Steps, pacing_for}
-use Rattle.send_core.proofs.StepsMade.{later-in_time}
+use Rattle.send_core.specs.Outcomes.{Credits}
+use Rattle.send_core.specs.Stands.{pacing_for}
 
 -- ---- a judged report
 
@@ -40,10 +27,10 @@ pub credits_made : (verdict : Judged) (told : Estimate) (m : ℤ) (moment moment
     → moment_two ≡ q.pacer.moment → m ≡ told.m
     → rates ≡ rates_told told q.settings.pacing_percent → given ≡ bare (shares told.target q.streams)
     → ((e : Est) (ds : List Deed) → estimator.StandsFor p.estimator e → probes.StandsFor p.clusters.items ds
-      → estimator.StandsFor est (judged_est e verdict.received.items verdict.missing moment p.settings.bounds (found ds verdict.received.items)))
+    → estimator.StandsFor est (judged_est e verdict.received.items verdict.missing moment p.settings.bounds (found ds verdict.received.items)))
     → ((ds : List Deed) → probes.StandsFor p.clusters.items ds → probes.StandsFor cs.items ((ds ++ map Note verdict.received.items) ++ takings (found ds verdict.received.items)))
     → ((e : Est) (ds : List Deed) → estimator.StandsFor p.estimator e → probes.StandsFor p.clusters.items ds
-      → told ≡ estimate (judged_est e verdict.received.items verdict.missing moment p.settings.bounds (found ds verdict.received.items)))
+    → told ≡ estimate (judged_est e verdict.received.items verdict.missing moment p.settings.bounds (found ds verdict.received.items)))
     → Credits verdict (reply_kind.Credited moment_two verdict told.signal m told.acked rates given) p q
 credits_made verdict told m moment moment_two rates given est cs p q here then after m_is rates_are shares_are stands counts answers =
     rw (m_is, rates_are, shares_are, after, then) (record {

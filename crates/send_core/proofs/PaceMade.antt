@@ -1,12 +1,11 @@
 -- How a pace begins, and what it does to the parts.
-use Rattle.std.proofs.Common.{◌≡◌, ℕ, ℤ, pos, neg_ℤ, ◌+◌, ◌-◌, ◌*◌, ◌<◌, ◌≤◌, ◌||◌, Bool, true, false, List, [], ◌∷◌, ◌++◌, length, fold, map, max, le-ltb, refl, sym, ◌∙◌, ap, subst, arith}
+use Rattle.std.proofs.Common.{◌≡◌, ℕ, ℤ, pos, neg_ℤ, ◌-◌, ◌*◌, ◌<◌, ◌≤◌, ◌||◌, Bool, true, false, List, ◌++◌, length, map, max, le-ltb, refl, sym, ◌∙◌, ap, subst, arith}
 use Rattle.std.proofs.lemmas.List.{append-nil}
 use Rattle.gcc_units.specs.Listed.{Listed, bare}
-use Rattle.gcc_units.specs.declared.limits.TheConstants.{GREATEST_MOMENT, MOST_SENDS, MOST_PACKETS, MOST_ENTRIES}
-use Rattle.pace_budget.specs.Level.{Deed, Advance, level}
+use Rattle.gcc_units.specs.declared.limits.TheConstants.{GREATEST_MOMENT, MOST_SENDS, MOST_ENTRIES}
+use Rattle.pace_budget.specs.Level.{Advance}
 use Rattle.pace_budget.specs.Steps.{step, level-step}
 use Rattle.pace_queues.specs.declared.ticket.Ticket.{Ticket}
-use Rattle.sent_history.specs.declared.TheConstants.{MOST_REPORTS}
 use Rattle.sent_history.specs.Events.{Event, packets}
 use Rattle.sent_history.specs.Balance.{HasFewStatuses}
 use Rattle.sent_history.specs.Kept as history_kept
@@ -14,22 +13,18 @@ use Rattle.std.proofs.lemmas.List.Elements.{All-nil}
 use Rattle.probe_clusters.specs.declared.cluster.Cluster.{Cluster}
 use Rattle.probe_clusters.specs.Deeds.{clusters}
 use Rattle.probe_clusters.specs.Deeds as probes
-use Rattle.estimator.specs.Est.{Est}
-use Rattle.estimator.specs.Kept as estimator
 use Rattle.pacer.specs.declared.sent.Sent.{Sent}
 use Rattle.pacer.specs.declared.course.Terms.{Terms}
 use Rattle.pacer.specs.declared.pacing.Pacing.{Pacing}
 use Rattle.pacer.specs.Course.{probes_of}
 use Rattle.pacer.specs.Pace.{Standing, unsent, paced, after_all}
-use Rattle.pacer.specs.Afters.{spending, has_media, after_each, after_all-is}
-use Rattle.pacer.specs.Sends.{paced-few}
+use Rattle.pacer.specs.Afters.{after_each, after_all-is}
 use Rattle.pacer.specs.State.{State, advanced, tuned, terms, standing, left}
-use Rattle.send_core.specs.declared.call.Call.{Call}
 use Rattle.send_core.specs.declared.call.Call.TheVariants as call_kind
 use Rattle.send_core.specs.declared.call.Reply.TheVariants as reply_kind
 use Rattle.send_core.specs.declared.call.Entry.{Entry}
 use Rattle.send_core.specs.declared.parts.Parts.{Parts}
-use Rattle.send_core.specs.History.{at_of, later, now, sent, waiting, began}
+use Rattle.send_core.specs.History.{later, now, sent, waiting, began}
 use Rattle.send_core.specs.Reports.{events, added_of, cluster_deeds}
 use Rattle.send_core.specs.Levels.{rate, window, padding_rate, passing, padding_passing, level_at, padding_at, floor, padding, deeds}
 use Rattle.send_core.specs.Levels as levels
@@ -86,7 +81,7 @@ paced-answer h p x at number moment out given s early moves counted runs here se
     let when : max p.pacer.moment at ≡ later (now h) (call_kind.Pace at) = ap (λ m. max m at) s.clock ∙ sym (later-in_time (now h) (call_kind.Pace at) early) in
     let x_moment : x.pacer.moment ≡ later (now h) (call_kind.Pace at) = ap (λ (y : Parts). y.pacer.moment) moves ∙ when in
     let begins : paced MOST_SENDS (terms x.pacer) (standing x.pacer x.clusters.items number)
-        ≡ paced MOST_SENDS (terms_at h (later (now h) (call_kind.Pace at))) (standing_at h (later (now h) (call_kind.Pace at))) =
+    ≡ paced MOST_SENDS (terms_at h (later (now h) (call_kind.Pace at))) (standing_at h (later (now h) (call_kind.Pace at))) =
     ap (λ (y : Parts). paced MOST_SENDS (terms y.pacer) (standing y.pacer y.clusters.items number)) moves
     ∙ (ap (λ t. paced MOST_SENDS t (standing (moved p (max p.pacer.moment at)).pacer p.clusters.items number)) (terms-are h p (max p.pacer.moment at) (later (now h) (call_kind.Pace at)) s when)
     ∙ ap (λ st. paced MOST_SENDS (terms_at h (later (now h) (call_kind.Pace at))) st) (standing-is h p (max p.pacer.moment at) (later (now h) (call_kind.Pace at)) number s when counted)) in

@@ -151,28 +151,19 @@ enqueued_wire h k e at class wire p is =
 
 -- ---- one more entry
 
-added : (h : List Entry) (n : ℕ) (ps : List AcceptedPacket) → n ≡ length h → length ps ≤ 1 → (length ps == 1) ≡ true
-    → map (λ (p : AcceptedPacket). n) ps ≡ length h ∷ []
-added h n [] is few test = absurd cc
-added h n (p ∷ []) is few test = rw is refl
-added h n (p ∷ q ∷ ps) is few test = absurd (omega arith)
+pub one-place : (n : ℕ) (ps : List AcceptedPacket) → length ps ≤ 1 → (length ps == 1) ≡ true → n ∷ [] ≡ map (λ (p : AcceptedPacket). n) ps
+one-place n [] few test = absurd cc
+one-place n (p ∷ []) few test = refl
+one-place n (p ∷ q ∷ ps) few test = absurd (omega arith)
 
-left : (n : ℕ) (ps : List AcceptedPacket) → length ps ≤ 1 → (length ps == 1) ≡ false → map (λ (p : AcceptedPacket). n) ps ≡ []
-left n [] few test = refl
-left n (p ∷ []) few test = absurd cc
-left n (p ∷ q ∷ ps) few test = absurd (omega arith)
+pub no-place : (n : ℕ) (ps : List AcceptedPacket) → length ps ≤ 1 → (length ps == 1) ≡ false → [] ≡ map (λ (p : AcceptedPacket). n) ps
+no-place n [] few test = refl
+no-place n (p ∷ []) few test = absurd cc
+no-place n (p ∷ q ∷ ps) few test = absurd (omega arith)
 
-pub places-accepted : (h : List Entry) (e : Entry) (places : List ℕ) → places ≡ places_from 0 h → (length (accepted_by e.call e.reply) == 1) ≡ true
-    → places ++ length h ∷ [] ≡ places_from 0 (h ++ e ∷ [])
-places-accepted h e places are test =
-    let z : 0 + length h ≡ length h = omega arith in
-    ap (λ ps. ps ++ length h ∷ []) are
-    ∙ (ap (λ ms. places_from 0 h ++ ms) (sym (added h (0 + length h) (accepted_by e.call e.reply) z (accepted_by-few e.call e.reply) test))
-    ∙ sym (places-push 0 h e))
-
-pub places-other : (h : List Entry) (e : Entry) (places : List ℕ) → places ≡ places_from 0 h → (length (accepted_by e.call e.reply) == 1) ≡ false
-    → places ≡ places_from 0 (h ++ e ∷ [])
-places-other h e places are test =
-    are ∙ (sym (append-nil (places_from 0 h))
-    ∙ (ap (λ ms. places_from 0 h ++ ms) (sym (left (0 + length h) (accepted_by e.call e.reply) (accepted_by-few e.call e.reply) test))
-    ∙ sym (places-push 0 h e)))
+pub places-more : (h : List Entry) (e : Entry) (places : List ℕ) (number : ℕ) → places ≡ places_from 0 h → number ≡ length h
+    → places ++ map (λ (p : AcceptedPacket). number) (accepted_by e.call e.reply) ≡ places_from 0 (h ++ e ∷ [])
+places-more h e places number are is =
+    let z : number ≡ 0 + length h = omega (arith, is) in
+    ap (λ ps. ps ++ map (λ (p : AcceptedPacket). number) (accepted_by e.call e.reply)) are
+    ∙ (ap (λ n. places_from 0 h ++ map (λ (p : AcceptedPacket). n) (accepted_by e.call e.reply)) z ∙ sym (places-push 0 h e))

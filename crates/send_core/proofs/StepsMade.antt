@@ -1,28 +1,22 @@
 -- What each kind of outcome does to the parts.
-use Rattle.std.proofs.Common.{◌≡◌, ℕ, ◌+◌, ◌-◌, ◌*◌, ◌<◌, ◌≤◌, ◌||◌, Bool, true, false, List, [], ◌∷◌, ◌++◌, length, All, Ok, Err, Result, nat_lt, cond, refl, sym, ◌∙◌, ap, subst, arith, min, max, lt-ltb, le-ltb}
+use Rattle.std.proofs.Common.{◌≡◌, ℕ, ◌+◌, ◌<◌, ◌≤◌, ◌||◌, Bool, true, false, List, [], ◌++◌, length, Ok, Err, Result, nat_lt, cond, refl, sym, ◌∙◌, ap, subst, arith, max, lt-ltb, le-ltb}
 use Rattle.std.proofs.lemmas.List.{append-nil}
 use Rattle.std.proofs.lemmas.Bool.Decides.{nat_tests}
-use Rattle.std.proofs.lemmas.List.Elements.{All-nil, All-cons}
+use Rattle.std.proofs.lemmas.List.Elements.{All-nil}
 use Rattle.gcc_units.specs.declared.class.Class.{Class}
 use Rattle.gcc_units.specs.Listed.{Listed}
-use Rattle.gcc_units.specs.declared.limits.TheConstants.{GREATEST_MOMENT, GREATEST_PACKET, LEAST_PACKET, MOST_SENDS}
+use Rattle.gcc_units.specs.declared.limits.TheConstants.{GREATEST_MOMENT, GREATEST_PACKET, LEAST_PACKET}
 use Rattle.rtp_wire.specs.declared.packet.WireFault.{WireFault}
 use Rattle.rtp_wire.specs.declared.packet.WireFault.TheVariants.{Short, Long}
 use Rattle.rtp_wire.specs.Place.{place_of}
 use Rattle.allocator.specs.declared.stream.Stream.{Stream}
-use Rattle.pace_budget.specs.Level.{Deed}
 use Rattle.pace_queues.specs.declared.ticket.Ticket.{Ticket}
-use Rattle.sent_history.specs.Events.{Event}
 use Rattle.sent_history.specs.Balance.{HasFewStatuses}
-use Rattle.sent_history.specs.Kept as history_kept
 use Rattle.probe_clusters.specs.Deeds as probes
 use Rattle.estimator.specs.Est.{Est}
 use Rattle.estimator.specs.Kept as estimator
-use Rattle.pacer.specs.declared.sent.Sent.{Sent}
-use Rattle.pacer.specs.Pace.{NamesBelow, unsent}
 use Rattle.pacer.specs.Records.{unsent-none}
 use Rattle.pacer.specs.State.{State, advanced, accepted, tuned}
-use Rattle.pacer.specs.Force.{in_force}
 use Rattle.send_core.specs.declared.call.Call.{Call}
 use Rattle.send_core.specs.declared.call.Call.TheVariants as call_kind
 use Rattle.send_core.specs.declared.call.Cause.{Cause}
@@ -30,11 +24,11 @@ use Rattle.send_core.specs.declared.call.Reply.{Reply}
 use Rattle.send_core.specs.declared.call.Reply.TheVariants as reply_kind
 use Rattle.send_core.specs.declared.parts.Parts.{Parts}
 use Rattle.send_core.specs.declared.settings.Settings.{Settings}
-use Rattle.send_core.specs.History.{at_of, later, accepted_by, ticket_of, tickets_from, sent_by}
+use Rattle.send_core.specs.History.{at_of, later, accepted_by, sent_by}
 use Rattle.send_core.specs.Settings.{settings_by, streams_by, starts_by}
 use Rattle.send_core.specs.Reports.{events_by, deeds_by}
 use Rattle.send_core.specs.Estimates.{est_by}
-use Rattle.send_core.specs.Stands.{IsReadable, Steps, pacing_for}
+use Rattle.send_core.specs.Stands.{Steps, pacing_for}
 
 -- ---- a packet that can be read is small
 

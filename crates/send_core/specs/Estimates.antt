@@ -1,14 +1,12 @@
 -- The estimates of a history. They read what replies judged, and none of the rates that replies tell.
-use Rattle.std.specs.Prelude.{ℕ, ◌*◌, ◌/◌, min, List, length}
+use Rattle.std.specs.Prelude.{ℕ, ◌*◌, ◌/◌, min, List}
 use Rattle.gcc_units.specs.declared.limits.TheConstants.{GREATEST_RATE}
-use Rattle.gcc_units.specs.declared.shared_types.Bounds.{Bounds}
 use Rattle.gcc_units.specs.Walk.{walk}
 use Rattle.probe_clusters.specs.Deeds.{Deed}
 use Rattle.estimator.specs.declared.estimate.Estimate.{Estimate}
 use Rattle.estimator.specs.Est.{Est, start_est, judged_est, set_est, estimate, found}
 use Rattle.send_core.specs.declared.call.Call.{Call}
-use Rattle.send_core.specs.declared.call.Call.TheVariants.{Report, Configure}
-use Rattle.send_core.specs.declared.call.Change.{Change}
+use Rattle.send_core.specs.declared.call.Call.TheVariants.{Configure}
 use Rattle.send_core.specs.declared.call.Reply.{Reply}
 use Rattle.send_core.specs.declared.call.Reply.TheVariants.{Credited, Configured}
 use Rattle.send_core.specs.declared.call.Rates.{Rates}

@@ -1,5 +1,5 @@
 -- The rate in force and both levels of a history.
-use Rattle.std.specs.Prelude.{ℕ, ℤ, pos, neg_ℤ, ◌-◌, ◌*◌, List, [], ◌∷◌, ◌++◌, length, fold}
+use Rattle.std.specs.Prelude.{ℕ, ℤ, pos, neg_ℤ, ◌-◌, ◌*◌, List, [], ◌∷◌, ◌++◌, fold}
 use Rattle.std.specs.List.{flat_map}
 use Rattle.gcc_units.specs.Walk.{walk, each_by}
 use Rattle.pace_budget.specs.Level.{Deed, Advance, level}

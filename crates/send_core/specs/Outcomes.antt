@@ -1,6 +1,5 @@
 -- What a judged report and an accepted change do to the parts, when time has passed.
-use Rattle.std.specs.Prelude.{◌≡◌, ℕ, ◌+◌, ◌≤◌, ◌||◌, List, [], ◌++◌, length, map, All}
-use Rattle.gcc_units.specs.declared.limits.TheConstants.{GREATEST_MOMENT}
+use Rattle.std.specs.Prelude.{◌≡◌, ◌≤◌, ◌||◌, List, ◌++◌, length, map, All}
 use Rattle.gcc_units.specs.declared.shared_types.Judged.{Judged}
 use Rattle.gcc_units.specs.Listed.{bare}
 use Rattle.loss_control.specs.declared.TheConstants.{MOST_COUNT}

@@ -1,6 +1,5 @@
 -- The reply to a call, by the entries before it, and the histories in which each reply is that one.
 use Rattle.std.specs.Prelude.{◌≡◌, ℕ, ◌+◌, ◌*◌, ◌≤◌, nat_lt, count_by, if◌then◌else◌, Option, None, Some, List, length, take, slice_get, Result, Ok, Err}
-use Rattle.gcc_units.specs.declared.class.Class.{Class}
 use Rattle.gcc_units.specs.declared.limits.TheConstants.{GREATEST_MOMENT, MOST_WAITING, MOST_SENDS, MOST_ENTRIES}
 use Rattle.gcc_units.specs.declared.shared_types.Judged.{Judged}
 use Rattle.gcc_units.specs.Listed.{bare}
@@ -14,7 +13,7 @@ use Rattle.probe_clusters.specs.Cluster.{waits}
 use Rattle.probe_clusters.specs.Deeds.{clusters}
 use Rattle.allocator.specs.Streams.{changed}
 use Rattle.allocator.specs.Shares.{shares}
-use Rattle.estimator.specs.Est.{Est, judged_est, set_est, estimate, found}
+use Rattle.estimator.specs.Est.{judged_est, set_est, estimate, found}
 use Rattle.pacer.specs.declared.course.Terms.{Terms}
 use Rattle.pacer.specs.Pace.{paced}
 use Rattle.pacer.specs.Pace as pace
@@ -25,7 +24,6 @@ use Rattle.send_core.specs.declared.call.Reply.{Reply}
 use Rattle.send_core.specs.declared.call.Reply.TheVariants.{Accepted, Paced, Credited, Configured, Refused}
 use Rattle.send_core.specs.declared.call.Cause.TheVariants as cause
 use Rattle.send_core.specs.declared.call.Entry.{Entry}
-use Rattle.send_core.specs.declared.settings.Settings.{Settings}
 use Rattle.send_core.specs.History.{at_of, later, now, accepted, sent, waiting, began, has_packets}
 use Rattle.send_core.specs.Settings.{Standing, fault_of, settings, settings_after, streams, started}
 use Rattle.send_core.specs.Reports.{events, cluster_deeds}

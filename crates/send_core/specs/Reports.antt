@@ -1,15 +1,13 @@
 -- What a history says of reports: the packets sent and the reports judged, and the deeds of the probe clusters.
 use Rattle.std.specs.Prelude.{ℕ, Bool, Option, None, Some, List, [], ◌∷◌, ◌++◌, map, Result, Ok, Err}
 use Rattle.std.specs.List.{flat_map}
-use Rattle.gcc_units.specs.declared.shared_types.Credit.{Credit}
-use Rattle.gcc_units.specs.declared.shared_types.Judged.{Judged}
 use Rattle.gcc_units.specs.Walk.{walk}
 use Rattle.twcc_report.specs.declared.fault.ReportFault.{ReportFault}
 use Rattle.twcc_report.specs.Spelling.{Feedback}
 use Rattle.twcc_report.specs.Reading.{read_of}
 use Rattle.sent_history.specs.declared.slot.Outgoing.{Outgoing}
 use Rattle.sent_history.specs.Events.{Event, added, reported}
-use Rattle.sent_history.specs.Crediting.{told, judged}
+use Rattle.sent_history.specs.Crediting.{judged}
 use Rattle.probe_clusters.specs.Deeds.{Deed, Plan, Note, takings}
 use Rattle.pacer.specs.declared.sent.Sent.{Sent}
 use Rattle.pacer.specs.declared.sent.Kind.{Kind}

@@ -1,8 +1,7 @@
 -- The settings of a history, and the checks of a change.
-use Rattle.std.specs.Prelude.{ℕ, ◌+◌, ◌*◌, ◌==◌, ◌&&◌, ◌||◌, not, nat_lt, nat_le, min, max, unwrap_or, Bool, true, false, if◌then◌else◌, Option, None, Some, List, [], ◌∷◌, ◌++◌, length, fold}
-use Rattle.std.specs.List.{list_any, list_all}
+use Rattle.std.specs.Prelude.{ℕ, ◌+◌, ◌*◌, ◌==◌, ◌&&◌, ◌||◌, not, nat_le, min, unwrap_or, Bool, true, false, if◌then◌else◌, Option, None, Some, List, [], ◌∷◌, ◌++◌, length, fold}
+use Rattle.std.specs.List.{list_any}
 use Rattle.gcc_units.specs.declared.limits.TheConstants.{LEAST_RATE, GREATEST_RATE, MOST_STREAMS, MOST_CLUSTERS}
-use Rattle.gcc_units.specs.declared.shared_types.Bounds.{Bounds}
 use Rattle.pace_budget.specs.declared.bucket.TheConstants.{GREATEST_WINDOW}
 use Rattle.allocator.specs.declared.stream.Stream.{Stream}
 use Rattle.allocator.specs.Streams.{are_sound, ids_differ, changed}

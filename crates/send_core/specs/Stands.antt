@@ -1,5 +1,5 @@
 -- The parts of a sender stand for its history, and what a call does to each of them.
-use Rattle.std.specs.Prelude.{◌≡◌, ℕ, ℤ, neg_ℤ, pos, ◌+◌, ◌-◌, ◌*◌, ◌<◌, ◌≤◌, ◌||◌, Option, None, Some, List, [], ◌++◌, length, min, fold, All, Ok, IfSome}
+use Rattle.std.specs.Prelude.{◌≡◌, ℕ, ℤ, neg_ℤ, pos, ◌+◌, ◌-◌, ◌*◌, ◌<◌, ◌≤◌, ◌||◌, Option, None, Some, List, ◌++◌, length, min, fold, All, Ok}
 use Rattle.gcc_units.specs.declared.limits.TheConstants.{GREATEST_MOMENT, GREATEST_RATE, GREATEST_PACKET, MOST_SENDS, MOST_ENTRIES}
 use Rattle.gcc_units.specs.Rates.{IsBounds}
 use Rattle.rtp_wire.specs.Place.{place_of}
@@ -10,6 +10,7 @@ use Rattle.pace_budget.specs.Steps.{step}
 use Rattle.sent_history.specs.declared.slot.Outgoing.{Outgoing}
 use Rattle.sent_history.specs.Events.{Event, packets, reports, last_sent_at}
 use Rattle.sent_history.specs.Balance.{HasFewStatuses}
+use Rattle.sent_history.specs.Crediting.{account}
 use Rattle.sent_history.specs.Kept as history_kept
 use Rattle.probe_clusters.specs.Deeds.{Deed, IsWithin, rates}
 use Rattle.probe_clusters.specs.Deeds as probes
@@ -17,7 +18,6 @@ use Rattle.estimator.specs.Est.{Est}
 use Rattle.estimator.specs.Kept.{IsUntil}
 use Rattle.estimator.specs.Kept as estimator
 use Rattle.pacer.specs.declared.pacing.Pacing.{Pacing}
-use Rattle.pacer.specs.declared.sent.Sent.{Sent}
 use Rattle.pacer.specs.Force.{in_force}
 use Rattle.pacer.specs.Pace.{NamesBelow, unsent, padding_after}
 use Rattle.pacer.specs.Afters.{spending, has_media}
@@ -73,12 +73,16 @@ pub record Laws (history : List Entry) : Type 0 where
   pub outgoing : All (IsOutgoing (now history) (length (rates (cluster_deeds history)))) (packets (events history))
   pub number : length (packets (events history)) ≡ length (sent history)
   pub few_reports : length (reports (events history)) ≤ length history
-  pub few_statuses : All HasFewStatuses (reports (events history))
   pub last : last_sent_at (events history) ≤ now history
   pub within : IsWithin (length (sent history)) (length (est history).credits) (cluster_deeds history)
   pub few_credits : length (est history).credits ≤ length (sent history)
   pub judged : (est history).reports ≤ length history
   pub until : IsUntil (now history) (est history)
+
+-- what more of them keeps: no report has more statuses than may be, and the estimates know just the credits
+pub record MoreLaws (history : List Entry) : Type 0 where
+  pub few_statuses : All HasFewStatuses (reports (events history))
+  pub credited : length (est history).credits ≡ length (account (events history)).credited
 
 -- ---- the parts
 
@@ -99,6 +103,7 @@ pub record StandsFor (parts : Parts) (history : List Entry) : Type 0 where
   pub set : parts.settings ≡ settings history
   pub was_started : parts.started ≡ started history
   pub laws : Laws history
+  pub more : MoreLaws history
 
 -- what the settings and the estimates ask of the pacer
 abbrev pub pacing_for : Settings → estimator.Values → Pacing

@@ -93,7 +93,11 @@ pub fn count_plans(started: bool, change: &Change) -> u32
     ensures count { result ≡ length (plans started change.now) }
     ensures few { result ≤ MOST_PLANS }
 {
-    let first = if !started && change.start.is_some() { 2 } else { 0 };
+    let first = if !started && change.start.is_some() {
+        2
+    } else {
+        0
+    };
     let probe = if change.probe.is_some() { 1 } else { 0 };
     first + probe
 }

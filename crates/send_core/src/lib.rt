@@ -9,10 +9,15 @@ mod journal;
 mod parts;
 mod planning;
 mod recording;
-mod telling;
+mod sender;
 mod settings;
+mod stamping;
+mod telling;
 
 pub use call::{Answer, ApplyFault, Call, Cause, Change, Entry, Rates, Reply};
 pub use journal::Journal;
+pub use sender::Sender;
 pub use settings::START_RATE;
 
+#[cfg(test)]
+mod tests;

@@ -5,10 +5,10 @@ ghost use Rattle.std.specs.Prelude.{◌≡◌, ◌≤◌, ◌<◌, [], List, len
 use crate::call::{Call, Cause, Change, Reply};
 use crate::checks::{MOST_PLANS, fault_of, has_any};
 use crate::copies::{Rooms, room};
-use crate::recording::record_sent;
 use crate::planning::plan_all;
+use crate::recording::record_sent;
+use crate::settings::{START_RATE, Settings, pacing_of};
 use crate::telling::{rates_of, shares_of};
-use crate::settings::{Settings, pacing_of};
 use allocator::StreamSet;
 use estimator::Estimator;
 use gcc_units::{
@@ -54,8 +54,24 @@ impl Parts {
     ghost use Rattle.send_core.specs.Planning.{CanPlan};
     ghost use Rattle.send_core.specs.Reply.{standing};
     ghost use Rattle.send_core.specs.Settings.{fault_of, plans, settings_after};
-    ghost use Rattle.send_core.specs.Settled.{IsSettled, HasRoom, credits_by, shares_by};
+    ghost use Rattle.send_core.specs.Settled.{IsSettled, HasRoom, sends_of, credits_by, shares_by};
     ghost use Rattle.send_core.specs.Stands.{StandsFor, StandsForShort, Steps, pacing_for, AreSettings};
+
+    /// The parts of a sender that nothing was asked of yet.
+    pub fn new(alloc: Global) -> Result<Parts, NoMemory>
+        ensures stands { IfOk result (λ p. StandsFor p []) }
+    {
+        Ok(Parts {
+            accepted: 0,
+            pacer: Pacer::new(alloc)?,
+            history: History::new(alloc)?,
+            estimator: Estimator::new(alloc, START_RATE)?,
+            clusters: Clusters::new(alloc),
+            streams: StreamSet::new(alloc),
+            settings: Settings::start(),
+            started: false,
+        })
+    }
 
     // Time passes up to a moment.
     fn move_to(&mut self, at: Moment)
@@ -110,6 +126,9 @@ impl Parts {
         ensures answer { (history : List Entry) → StandsFor self.old history → result ≡ reply history (call_kind.Enqueue at class wire.now) }
         ensures steps { Steps (call_kind.Enqueue at class wire.now) result self.old self.new }
         ensures settled { IsSettled result }
+        ensures sends { sent_by result ≡ [] }
+        ensures received { credits_by result ≡ [] }
+        ensures shares { shares_by result ≡ [] }
     {
         if at > GREATEST_MOMENT {
             return self.refuse_late();
@@ -147,6 +166,8 @@ impl Parts {
         ensures steps { Steps (call_kind.Pace at) result self.old self.new }
         ensures settled { IsSettled result }
         ensures few { length (sent_by result) ≤ MOST_SENDS }
+        ensures received { credits_by result ≡ [] }
+        ensures shares { shares_by result ≡ [] }
     {
         if at > GREATEST_MOMENT {
             return self.refuse_late();
@@ -164,16 +185,12 @@ impl Parts {
 
     /// A report came. At `NoMemory` nothing has changed. Beside the reply comes room for its lists once
     /// more.
-    fn report(
-        &mut self,
-        alloc: Global,
-        at: u64,
-        bytes: &Bytes,
-    ) -> Result<(Reply, Rooms), NoMemory>
+    fn report(&mut self, alloc: Global, at: u64, bytes: &Bytes) -> Result<(Reply, Rooms), NoMemory>
         requires { StandsForShort self.old }
         ensures answer { IfOk result (λ r. (history : List Entry) → StandsFor self.old history → r.0 ≡ reply history (call_kind.Report at bytes.now)) }
         ensures steps { IfOk result (λ r. Steps (call_kind.Report at bytes.now) r.0 self.old self.new) }
         ensures settled { IfOk result (λ r. IsSettled r.0) }
+        ensures none { IfOk result (λ r. sent_by r.0 ≡ []) }
         ensures room { IfOk result (λ r. HasRoom r.0 r.1) }
         ensures err { OnErr result (self.new ≡ self.old) }
     {
@@ -240,6 +257,7 @@ impl Parts {
         ensures answer { IfOk result (λ r. (history : List Entry) → StandsFor self.old history → r.0 ≡ reply history (call_kind.Configure at change.now)) }
         ensures steps { IfOk result (λ r. Steps (call_kind.Configure at change.now) r.0 self.old self.new) }
         ensures settled { IfOk result (λ r. IsSettled r.0) }
+        ensures none { IfOk result (λ r. sent_by r.0 ≡ []) }
         ensures room { IfOk result (λ r. HasRoom r.0 r.1) }
         ensures err { OnErr result (self.new ≡ self.old) }
     {
@@ -300,6 +318,32 @@ impl Parts {
             at: self.pacer.moment(),
             rates: rates_of(&estimate, self.settings.pacing_percent),
             shares: shares_of(estimate.target, &self.streams, room),
+        }
+    }
+
+    /// Serves one call. At `NoMemory` nothing has changed. Beside the reply comes room for its lists
+    /// once more.
+    pub fn serve(&mut self, alloc: Global, call: &Call) -> Result<(Reply, Rooms), NoMemory>
+        requires { StandsForShort self.old }
+        ensures answer { IfOk result (λ r. (history : List Entry) → StandsFor self.old history → r.0 ≡ reply history call.now) }
+        ensures steps { IfOk result (λ r. Steps call.now r.0 self.old self.new) }
+        ensures settled { IfOk result (λ r. IsSettled r.0) }
+        ensures sends { IfOk result (λ r. length (sent_by r.0) ≤ sends_of call.now) }
+        ensures room { IfOk result (λ r. HasRoom r.0 r.1) }
+        ensures err { OnErr result (self.new ≡ self.old) }
+    {
+        match call {
+            Call::Enqueue { at, class, wire } => {
+                let rooms = room(alloc, 0, 0, 0)?;
+                Ok((self.enqueue(*at, *class, wire), rooms))
+            }
+            Call::Pace { at } => {
+                let kept = room(alloc, MOST_SENDS, 0, 0)?.sent;
+                let rooms = room(alloc, MOST_SENDS, 0, 0)?;
+                Ok((self.pace(*at, kept), rooms))
+            }
+            Call::Report { at, bytes } => self.report(alloc, *at, bytes),
+            Call::Configure { at, change } => self.configure(alloc, *at, change),
         }
     }
 }

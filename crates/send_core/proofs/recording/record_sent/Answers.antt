@@ -1,4 +1,4 @@
-use Rattle.std.proofs.Common.{◌≡◌, ◌<◌, ◌≤◌, length, take, arith, sym, ap, subst, min}
+use Rattle.std.proofs.Common.{length, take, arith, sym, ap, subst}
 use Rattle.std.proofs.lemmas.List.{length-take}
 use Rattle.sent_history.specs.declared.slot.Outgoing.{Outgoing}
 use Rattle.sent_history.specs.Kept.{IsSentBy}

@@ -1,4 +1,3 @@
-use Rattle.std.proofs.Common.{◌≡◌}
 use Rattle.send_core.specs.Reports.{events}
 use Rattle.send_core.proofs.Checking.{fault-is}
 use Rattle.send_core.proofs.parts.Parts.fault_of.Goals as goal

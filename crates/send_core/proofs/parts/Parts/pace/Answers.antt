@@ -1,4 +1,4 @@
-use Rattle.std.proofs.Common.{◌≡◌, ◌<◌, ◌≤◌, ◌++◌, List, length, map, max, sym, ◌∙◌, ap, subst, arith}
+use Rattle.std.proofs.Common.{◌≡◌, ◌≤◌, ◌++◌, List, length, map, max, sym, ◌∙◌, ap, subst, arith}
 use Rattle.sent_history.specs.Events.{Event, packets}
 use Rattle.sent_history.specs.Kept as history_kept
 use Rattle.pacer.specs.declared.sent.Sent.{Sent}

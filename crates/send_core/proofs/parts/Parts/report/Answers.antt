@@ -1,4 +1,4 @@
-use Rattle.std.proofs.Common.{◌≡◌, ◌<◌, ◌≤◌, length, max, Ok, sym, ◌∙◌, ap, subst, arith}
+use Rattle.std.proofs.Common.{◌≡◌, ◌≤◌, length, max, Ok, subst, arith}
 use Rattle.gcc_units.specs.declared.limits.TheConstants.{GREATEST_MOMENT}
 use Rattle.send_core.specs.declared.call.Call.TheVariants as call_kind
 use Rattle.send_core.proofs.StepsMade.{steps_late, steps_refused}

@@ -12,14 +12,14 @@ use Rattle.gcc_units.specs.declared.class.Class.{Class}
 use Rattle.gcc_units.specs.declared.class.Class.TheVariants.{Audio, Retransmission, Video, Fec}
 use Rattle.gcc_units.specs.declared.limits.TheConstants.{MOST_ACTORS}
 use Rattle.gcc_units.specs.Listed.{bare}
-use Rattle.send_core.specs.declared.call.Call.TheVariants.{Enqueue, Pace}
+use Rattle.send_core.specs.declared.call.Call.TheVariants.{Enqueue, Pace, Report, Configure}
 use Rattle.call_trace.specs.declared.fault.TraceFault.{TraceFault}
 use Rattle.call_trace.specs.declared.trace.Action.{Action}
 use Rattle.call_trace.specs.declared.trace.Action.TheVariants.{Ask, Look}
 use Rattle.call_trace.specs.declared.trace.Line.{Line}
 use Rattle.call_trace.specs.Plain.{Plain, settled_action, settled_line, settled}
 use Rattle.call_trace.specs.Fields.{fed, lines_of}
-use Rattle.call_trace.specs.Reading.{◌>>=◌, actor_at, moment_at, class_at, hex_at, enqueue_at, pace_at, glance_at, action_at, is_end, actions_at, header_at, lines_at, trace_at}
+use Rattle.call_trace.specs.Reading.{◌>>=◌, actor_at, moment_at, class_at, hex_at, enqueue_at, pace_at, report_at, glance_at, action_at, is_end, actions_at, header_at, lines_at, trace_at}
 use Rattle.call_trace.specs.Grammar.{letter_of, IsHex, IsAction, IsLine, header, IsTrace}
 use Rattle.call_trace.proofs.Lines.{Lacks, Lacks-from_each, line_first}
 use Rattle.call_trace.proofs.Numbers.{number_of-decimal, Lacks-decimal}
@@ -70,6 +70,16 @@ pace_again actors a at low few small =
     let la = Lacks-decimal 32 a (omega arith) few in
     rw (field_of (decimal a) (decimal at) la, behind_of (decimal a) (decimal at) la) (rw (actor_again actors a low few, moment_again at small) refl)
 
+report_again : (actors a at : ℕ) (hex bytes : List ℕ) → a < actors → a < 2 ^ 64 → at < 2 ^ 64 → IsHex hex bytes
+    → report_at actors (decimal a ++ 32 ∷ (decimal at ++ 32 ∷ hex)) ≡ Ok (record { actor = a; action = Ask (Report at (bare bytes)) })
+unfolding report_at
+report_again actors a at hex bytes low few small is =
+    let r1 = decimal at ++ 32 ∷ hex in
+    let la = Lacks-decimal 32 a (omega arith) few in
+    let lm = Lacks-decimal 32 at (omega arith) small in
+    rw (field_of (decimal a) r1 la, behind_of (decimal a) r1 la, field_of (decimal at) hex lm, behind_of (decimal at) hex lm)
+    (rw (actor_again actors a low few, moment_again at small, hex_again hex bytes is) refl)
+
 glance_again : (actors a : ℕ) → a < actors → a < 2 ^ 64 → glance_at actors (decimal a) ≡ Ok (record { actor = a; action = Look })
 unfolding glance_at
 glance_again actors a low few = rw (actor_again actors a low few) refl
@@ -78,6 +88,8 @@ told_again : (actors : ℕ) (text : List ℕ) (a : ℕ) (action : Action) → a 
 unfolding action_at
 told_again actors text a (Ask (Enqueue at class wire)) low few h = rw h.3 (enqueue_again actors a at class h.0 wire.items low few h.2 h.1)
 told_again actors text a (Ask (Pace at)) low few h = rw h.1 (pace_again actors a at low few h.0)
+told_again actors text a (Ask (Report at bytes)) low few h = rw h.3 (report_again actors a at h.0 bytes.items low few h.2 h.1)
+told_again actors text a (Ask (Configure at change)) low few h = absurd h
 told_again actors text a Look low few h = rw h (glance_again actors a low few)
 
 pub action_again : (actors : ℕ) (text : List ℕ) (line : Line) → actors ≤ 2 ^ 32 → IsLine actors text line → action_at actors text ≡ Ok (settled_line line)
@@ -87,6 +99,8 @@ action_again actors text line few h = told_again actors text line.actor line.act
 told_other : (text : List ℕ) (a : ℕ) (action : Action) → IsAction text a action → is_end text ≡ false
 told_other text a (Ask (Enqueue at class wire)) h = rw h.3 refl
 told_other text a (Ask (Pace at)) h = rw h.1 refl
+told_other text a (Ask (Report at bytes)) h = rw h.3 refl
+told_other text a (Ask (Configure at change)) h = absurd h
 told_other text a Look h = rw h refl
 
 pub action_other : (actors : ℕ) (text : List ℕ) (line : Line) → IsLine actors text line → is_end text ≡ false
@@ -116,6 +130,10 @@ feedless text a (Ask (Enqueue at class wire)) few h =
     let middle : Lacks 10 (decimal at ++ 32 ∷ (letter_of class ++ 32 ∷ h.0)) = Lacks-append 10 (decimal at) (32 ∷ (letter_of class ++ 32 ∷ h.0)) (Lacks-decimal 10 at (omega arith) h.2) (refl, back) in
     rw h.3 (refl, (refl, Lacks-append 10 (decimal a) (32 ∷ (decimal at ++ 32 ∷ (letter_of class ++ 32 ∷ h.0))) (Lacks-decimal 10 a (omega arith) few) (refl, middle)))
 feedless text a (Ask (Pace at)) few h = rw h.1 (refl, (refl, Lacks-append 10 (decimal a) (32 ∷ decimal at) (Lacks-decimal 10 a (omega arith) few) (refl, Lacks-decimal 10 at (omega arith) h.0)))
+feedless text a (Ask (Report at bytes)) few h =
+    let back : Lacks 10 (decimal at ++ 32 ∷ h.0) = Lacks-append 10 (decimal at) (32 ∷ h.0) (Lacks-decimal 10 at (omega arith) h.2) (refl, feedless_hex h.0 bytes.items h.1.1) in
+    rw h.3 (refl, (refl, Lacks-append 10 (decimal a) (32 ∷ (decimal at ++ 32 ∷ h.0)) (Lacks-decimal 10 a (omega arith) few) (refl, back)))
+feedless text a (Ask (Configure at change)) few h = absurd h
 feedless text a Look few h = rw h (refl, (refl, Lacks-decimal 10 a (omega arith) few))
 
 feedless_header : (actors : ℕ) → actors < 2 ^ 64 → Lacks 10 (header actors)

@@ -6,13 +6,13 @@ use Rattle.hex.specs.declared.error.FromHexError.{FromHexError}
 use Rattle.hex.specs.Hex.{decode_of}
 use Rattle.gcc_units.specs.declared.class.Class.{Class}
 use Rattle.gcc_units.specs.Listed.{bare}
-use Rattle.send_core.specs.declared.call.Call.TheVariants.{Enqueue, Pace}
+use Rattle.send_core.specs.declared.call.Call.TheVariants.{Enqueue, Pace, Report}
 use Rattle.call_trace.specs.declared.fault.TheConstants.{NO_ACTOR, NO_VERB, NO_MOMENT, NO_HEX}
 use Rattle.call_trace.specs.declared.trace.Action.TheVariants.{Ask, Look}
 use Rattle.call_trace.specs.declared.trace.Line.{Line}
 use Rattle.call_trace.specs.Fields.{field, behind, number_of}
-use Rattle.call_trace.specs.Reading.{◌>>=◌, or_reason, below, actor_at, moment_at, class_at, decoded, hex_at, enqueue_at, pace_at, glance_at, fields_at, action_at}
-use Rattle.call_trace.specs.Faults.{Kind, actor, moment, class, packet, kinds_of, IsGood, reason_of, IsFirstBad, IsBadOf, IsBadLine}
+use Rattle.call_trace.specs.Reading.{◌>>=◌, or_reason, below, actor_at, moment_at, class_at, decoded, hex_at, enqueue_at, pace_at, report_at, glance_at, fields_at, action_at}
+use Rattle.call_trace.specs.Faults.{Kind, actor, moment, class, bytes, kinds_of, IsGood, reason_of, IsFirstBad, IsBadOf, IsBadLine}
 use Rattle.call_trace.proofs.Found.{actor_found, moment_found, class_found, hex_found}
 use Rattle.call_trace.proofs.Again.{actor_again, moment_again, class_again, hex_again}
 
@@ -41,7 +41,7 @@ class_err (letter ∷ []) r e = letter_err (eqb letter 97) (eqb letter 114) (eqb
 class_err (a ∷ b ∷ more) r e = cc
 
 decoded_err : (d : Result (List ℕ) FromHexError) (r : ℕ) → decoded d ≡ Err r → r ≡ NO_HEX
-decoded_err (Ok bytes) r e = absurd cc
+decoded_err (Ok octets) r e = absurd cc
 decoded_err (Err d) r e = cc
 
 hex_err : (text : List ℕ) (r : ℕ) → hex_at text ≡ Err r → r ≡ NO_HEX
@@ -78,9 +78,9 @@ class_tells actors text =
     (λ good. (good.0, ap class_at good.1 ∙ class_again good.0))
     (λ r e. class_err text r e)
 
-packet_tells : (actors : ℕ) (text : List ℕ) → Tells actors packet text (hex_at text)
-packet_tells actors text =
-    told actors packet text (hex_at text) (hex_at text) refl
+bytes_tells : (actors : ℕ) (text : List ℕ) → Tells actors bytes text (hex_at text)
+bytes_tells actors text =
+    told actors bytes text (hex_at text) (hex_at text) refl
     (λ w e. (w.items, (hex_found text w e).0))
     (λ good. (bare good.0, hex_again text good.0 good.1))
     (λ r e. hex_err text r e)
@@ -120,19 +120,26 @@ more actors kind next kinds text read rest (inr bad) others =
       again = λ r either. elim either [ inl first ↦ is ∙ ap (λ q. Err q) (sym first.1) | inr later ↦ absurd (bad.0 later.0) ];
     }
 
-enqueue_fails : (actors : ℕ) (rest : List ℕ) → actors ≤ 2 ^ 32 → FailsWhere (enqueue_at actors rest) (IsFirstBad actors (actor ∷ moment ∷ class ∷ packet ∷ []) rest)
+enqueue_fails : (actors : ℕ) (rest : List ℕ) → actors ≤ 2 ^ 32 → FailsWhere (enqueue_at actors rest) (IsFirstBad actors (actor ∷ moment ∷ class ∷ bytes ∷ []) rest)
 unfolding enqueue_at
 enqueue_fails actors rest few =
-    more actors actor moment (class ∷ packet ∷ []) rest _ _ (actor_tells actors (field rest) few)
-    (λ a. more actors moment class (packet ∷ []) (behind rest) _ _ (moment_tells actors (field (behind rest)))
-    (λ at. more actors class packet [] (behind (behind rest)) _ _ (class_tells actors (field (behind (behind rest))))
-    (λ c. last actors packet (behind (behind (behind rest))) _ _ (packet_tells actors (behind (behind (behind rest)))) (λ wire. (record { actor = a; action = Ask (Enqueue at c wire) }, refl)))))
+    more actors actor moment (class ∷ bytes ∷ []) rest _ _ (actor_tells actors (field rest) few)
+    (λ a. more actors moment class (bytes ∷ []) (behind rest) _ _ (moment_tells actors (field (behind rest)))
+    (λ at. more actors class bytes [] (behind (behind rest)) _ _ (class_tells actors (field (behind (behind rest))))
+    (λ c. last actors bytes (behind (behind (behind rest))) _ _ (bytes_tells actors (behind (behind (behind rest)))) (λ wire. (record { actor = a; action = Ask (Enqueue at c wire) }, refl)))))
 
 pace_fails : (actors : ℕ) (rest : List ℕ) → actors ≤ 2 ^ 32 → FailsWhere (pace_at actors rest) (IsFirstBad actors (actor ∷ moment ∷ []) rest)
 unfolding pace_at
 pace_fails actors rest few =
     more actors actor moment [] rest _ _ (actor_tells actors (field rest) few)
     (λ a. last actors moment (behind rest) _ _ (moment_tells actors (behind rest)) (λ at. (record { actor = a; action = Ask (Pace at) }, refl)))
+
+report_fails : (actors : ℕ) (rest : List ℕ) → actors ≤ 2 ^ 32 → FailsWhere (report_at actors rest) (IsFirstBad actors (actor ∷ moment ∷ bytes ∷ []) rest)
+unfolding report_at
+report_fails actors rest few =
+    more actors actor moment (bytes ∷ []) rest _ _ (actor_tells actors (field rest) few)
+    (λ a. more actors moment bytes [] (behind rest) _ _ (moment_tells actors (field (behind rest)))
+    (λ at. last actors bytes (behind (behind rest)) _ _ (bytes_tells actors (behind (behind rest))) (λ octets. (record { actor = a; action = Ask (Report at octets) }, refl))))
 
 glance_fails : (actors : ℕ) (rest : List ℕ) → actors ≤ 2 ^ 32 → FailsWhere (glance_at actors rest) (IsFirstBad actors (actor ∷ []) rest)
 unfolding glance_at
@@ -149,12 +156,13 @@ chosen false x y actors k l text one other = other
 fields_fail : (actors : ℕ) (verb rest : List ℕ) → actors ≤ 2 ^ 32 → FailsWhere (fields_at actors verb rest) (IsBadOf actors (kinds_of verb) rest)
 fields_fail actors [] rest few = no_verb rest actors
 fields_fail actors (letter ∷ []) rest few =
-    rw (and-true (eqb letter 69), and-true (eqb letter 80), and-true (eqb letter 71))
+    rw (and-true (eqb letter 69), and-true (eqb letter 80), and-true (eqb letter 82), and-true (eqb letter 71))
     (chosen (eqb letter 69) _ _ actors _ _ rest (enqueue_fails actors rest few)
     (chosen (eqb letter 80) _ _ actors _ _ rest (pace_fails actors rest few)
-    (chosen (eqb letter 71) _ _ actors _ _ rest (glance_fails actors rest few) (no_verb rest actors))))
+    (chosen (eqb letter 82) _ _ actors _ _ rest (report_fails actors rest few)
+    (chosen (eqb letter 71) _ _ actors _ _ rest (glance_fails actors rest few) (no_verb rest actors)))))
 fields_fail actors (a ∷ b ∷ more) rest few =
-    rw (and-false (eqb a 69), and-false (eqb a 80), and-false (eqb a 71)) (no_verb rest actors)
+    rw (and-false (eqb a 69), and-false (eqb a 80), and-false (eqb a 82), and-false (eqb a 71)) (no_verb rest actors)
 
 pub action_fails : (actors : ℕ) (line : List ℕ) → actors ≤ 2 ^ 32 → FailsWhere (action_at actors line) (IsBadLine actors line)
 unfolding action_at

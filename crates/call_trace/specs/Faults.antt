@@ -19,13 +19,14 @@ pub data Kind : Type 0 where
   actor : Kind
   moment : Kind
   class : Kind
-  packet : Kind
+  bytes : Kind
 
 -- the fields behind a verb
 abbrev pub kinds_of : List ℕ → Option (List Kind)
 kinds_of verb =
-    if pointwise nat_eq verb (codes "E") then Some (actor ∷ moment ∷ class ∷ packet ∷ [])
+    if pointwise nat_eq verb (codes "E") then Some (actor ∷ moment ∷ class ∷ bytes ∷ [])
     else if pointwise nat_eq verb (codes "P") then Some (actor ∷ moment ∷ [])
+    else if pointwise nat_eq verb (codes "R") then Some (actor ∷ moment ∷ bytes ∷ [])
     else if pointwise nat_eq verb (codes "G") then Some (actor ∷ [])
     else None
 
@@ -33,14 +34,14 @@ abbrev pub IsGood : ℕ → Kind → List ℕ → Type 0
 IsGood actors actor text = (n : ℕ) × (n < actors) × (text ≡ decimal n)
 IsGood actors moment text = (n : ℕ) × (n < 2 ^ 64) × (text ≡ decimal n)
 IsGood actors class text = (c : Class) × (text ≡ letter_of c)
-IsGood actors packet text = (bytes : List ℕ) × IsHex text bytes
+IsGood actors bytes text = (octets : List ℕ) × IsHex text octets
 
 -- why a field that is no good one is bad
 abbrev pub reason_of : Kind → ℕ
 reason_of actor = NO_ACTOR
 reason_of moment = NO_MOMENT
 reason_of class = NO_VERB
-reason_of packet = NO_HEX
+reason_of bytes = NO_HEX
 
 -- the first bad one of a text's fields has this reason; the last field is all that is left, and one that is not there is empty
 abbrev pub IsFirstBad : ℕ → List Kind → List ℕ → ℕ → Type 0

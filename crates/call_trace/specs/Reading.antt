@@ -7,7 +7,7 @@ use Rattle.gcc_units.specs.declared.class.Class.{Class}
 use Rattle.gcc_units.specs.declared.class.Class.TheVariants.{Audio, Retransmission, Video, Fec}
 use Rattle.gcc_units.specs.declared.limits.TheConstants.{MOST_ACTORS}
 use Rattle.gcc_units.specs.Listed.{Listed, bare}
-use Rattle.send_core.specs.declared.call.Call.TheVariants.{Enqueue, Pace}
+use Rattle.send_core.specs.declared.call.Call.TheVariants.{Enqueue, Pace, Report}
 use Rattle.call_trace.specs.declared.fault.TheConstants.{NO_HEADER, NO_ACTOR, NO_VERB, NO_MOMENT, NO_HEX, TOO_MANY_LINES, NO_END, BEHIND_END}
 use Rattle.call_trace.specs.declared.fault.Bad.{Bad}
 use Rattle.call_trace.specs.declared.fault.Bad.TheVariants as bad
@@ -86,6 +86,13 @@ pace_at actors rest = do
   at ← moment_at (behind rest)
   Ok (record { actor = actor; action = Ask (Pace at) })
 
+unfoldable pub report_at : ℕ → List ℕ → Result Line ℕ
+report_at actors rest = do
+  actor ← actor_at actors (field rest)
+  at ← moment_at (field (behind rest))
+  bytes ← hex_at (behind (behind rest))
+  Ok (record { actor = actor; action = Ask (Report at bytes) })
+
 unfoldable pub glance_at : ℕ → List ℕ → Result Line ℕ
 glance_at actors rest = do
   actor ← actor_at actors rest
@@ -95,6 +102,7 @@ abbrev pub verb_at : ℕ → ℕ → List ℕ → Result Line ℕ
 verb_at actors letter rest =
     if letter == 69 then enqueue_at actors rest
     else if letter == 80 then pace_at actors rest
+    else if letter == 82 then report_at actors rest
     else if letter == 71 then glance_at actors rest
     else Err NO_VERB
 

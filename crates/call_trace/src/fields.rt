@@ -90,7 +90,7 @@ pub fn class(text: &[u8]) -> Result<Class, Bad>
 }
 
 /// The bytes of one or more pairs of hex digits, in either case.
-pub fn packet(alloc: Global, text: &[u8]) -> Result<Bytes, Bad>
+pub fn hex_bytes(alloc: Global, text: &[u8]) -> Result<Bytes, Bad>
     requires { length text.now ≤ MOST_CHECK_BYTES }
     ensures { Gives result (hex_at text.now) }
 {

@@ -45,7 +45,7 @@ fn faults(rt: HostRuntime) {
         (b"gcc-trace 1 2\nP 1 0\nend\n", (0, 0)),
         (b"gcc-trace 1 2\nP 2 0\nend\n", (2, NO_ACTOR)),
         (b"gcc-trace 1 2\nX 0 0\nend\n", (2, NO_VERB)),
-        (b"gcc-trace 1 2\nR 0 0 00\nend\n", (2, NO_VERB)),
+        (b"gcc-trace 1 2\nR 0 0 00\nend\n", (0, 0)),
         (b"gcc-trace 1 2\nC 0 0 {}\nend\n", (2, NO_VERB)),
         (b"gcc-trace 1 2\nP 0 01\nend\n", (2, NO_MOMENT)),
         (b"gcc-trace 1 2\nE 0 0 q 00\nend\n", (2, NO_VERB)),
@@ -105,6 +105,8 @@ fn parts(line: &Line) -> (u32, u64, Option<Class>, &[u8]) {
             (line.actor, *at, Some(*class), wire.as_slice())
         }
         Action::Ask(Call::Pace { at }) => (line.actor, *at, None, b"pace".as_slice()),
+        Action::Ask(Call::Report { at, bytes }) => (line.actor, *at, None, bytes.as_slice()),
+        Action::Ask(Call::Configure { at, .. }) => (line.actor, *at, None, b"change".as_slice()),
         Action::Look => (line.actor, 0, None, b"look".as_slice()),
     }
 }

@@ -1,12 +1,12 @@
 -- What is spelled so is read.
-use Rattle.std.proofs.Common.{◌≡◌, ℕ, suc, ◌+◌, ◌^◌, ◌<◌, ◌≤◌, true, false, ltb, ◌&&◌, List, [], ◌∷◌, ◌++◌, length, get_or, map, Result, Ok, Err, refl, sym, ap, ◌∙◌, append_assoc, arith}
+use Rattle.std.proofs.Common.{◌≡◌, ℕ, suc, ◌+◌, ◌^◌, ◌<◌, ◌≤◌, true, false, ltb, ◌&&◌, List, [], ◌∷◌, ◌++◌, length, map, Result, Ok, Err, refl, sym, ap, ◌∙◌, append_assoc, arith}
 use Rattle.std.proofs.Math.Dec.{leb}
-use Rattle.std.specs.Prelude.{codes}
-use Rattle.std.specs.List.{flat_map, AllZip}
+use Rattle.std.specs.Prelude.{codes, ◌≢◌}
+use Rattle.std.specs.List.{flat_map, AllZip, AllByRecursion}
+use Rattle.std.proofs.lemmas.List.Elements.{recursion_from_All}
 use Rattle.std.specs.Fmt.{decimal}
-use Rattle.std.proofs.lemmas.Bool.{lt-ltb, le-ltb, le-leb, ne_eqb, and_from}
+use Rattle.std.proofs.lemmas.Bool.{lt-ltb, le-ltb, le-leb, and_from}
 use Rattle.std.proofs.lemmas.List.{append-nil}
-use Rattle.hex.specs.Hex.{decode_of, is_hex_digit}
 use Rattle.hex.proofs.HexLemmas.{decode_of-ok}
 use Rattle.gcc_units.specs.declared.class.Class.{Class}
 use Rattle.gcc_units.specs.declared.class.Class.TheVariants.{Audio, Retransmission, Video, Fec}
@@ -17,14 +17,19 @@ use Rattle.call_trace.specs.declared.fault.TraceFault.{TraceFault}
 use Rattle.call_trace.specs.declared.trace.Action.{Action}
 use Rattle.call_trace.specs.declared.trace.Action.TheVariants.{Ask, Look}
 use Rattle.call_trace.specs.declared.trace.Line.{Line}
-use Rattle.call_trace.specs.Plain.{Plain, settled_action, settled_line, settled}
-use Rattle.call_trace.specs.Fields.{fed, lines_of}
-use Rattle.call_trace.specs.Reading.{◌>>=◌, actor_at, moment_at, class_at, hex_at, enqueue_at, pace_at, report_at, glance_at, action_at, is_end, actions_at, header_at, lines_at, trace_at}
+use Rattle.send_core.specs.declared.call.Change.{Change}
+use Rattle.call_trace.specs.Settings.{SpellsChange}
+use Rattle.call_trace.specs.Plain.{Plain, settled_change, settled_action, settled_line, settled}
+use Rattle.call_trace.specs.Fields.{IsLineText, fed, lines_of}
+use Rattle.call_trace.specs.Steps.{◌>>=◌}
+use Rattle.call_trace.specs.Reading.{actor_at, moment_at, class_at, hex_at, enqueue_at, pace_at, report_at, configure_at, glance_at, action_at, is_end, actions_at, header_at, lines_at, trace_at}
 use Rattle.call_trace.specs.Grammar.{letter_of, IsHex, IsAction, IsLine, header, IsTrace}
-use Rattle.call_trace.proofs.Lines.{Lacks, Lacks-from_each, line_first}
+use Rattle.call_trace.proofs.Lines.{Lacks, line_first}
 use Rattle.call_trace.proofs.Numbers.{number_of-decimal, Lacks-decimal}
+use Rattle.call_trace.proofs.ChangeExact.{json_again}
+use Rattle.call_trace.proofs.Cutting.{Lacks-from_All}
 use Rattle.call_trace.proofs.Parts.{field_of, behind_of}
-use Rattle.call_trace.proofs.Found.{ok_is}
+use Rattle.call_trace.proofs.StepsTaken.{ok_is}
 
 -- ---- fields
 
@@ -80,6 +85,16 @@ report_again actors a at hex bytes low few small is =
     rw (field_of (decimal a) r1 la, behind_of (decimal a) r1 la, field_of (decimal at) hex lm, behind_of (decimal at) hex lm)
     (rw (actor_again actors a low few, moment_again at small, hex_again hex bytes is) refl)
 
+configure_again : (actors a at : ℕ) (json : List ℕ) (change : Change) → a < actors → a < 2 ^ 64 → at < 2 ^ 64 → SpellsChange json change
+    → configure_at actors (decimal a ++ 32 ∷ (decimal at ++ 32 ∷ json)) ≡ Ok (record { actor = a; action = Ask (Configure at (settled_change change)) })
+unfolding configure_at
+configure_again actors a at json change low few small is =
+    let r1 = decimal at ++ 32 ∷ json in
+    let la = Lacks-decimal 32 a (omega arith) few in
+    let lm = Lacks-decimal 32 at (omega arith) small in
+    rw (field_of (decimal a) r1 la, behind_of (decimal a) r1 la, field_of (decimal at) json lm, behind_of (decimal at) json lm)
+    (rw (actor_again actors a low few, moment_again at small, json_again json change is) refl)
+
 glance_again : (actors a : ℕ) → a < actors → a < 2 ^ 64 → glance_at actors (decimal a) ≡ Ok (record { actor = a; action = Look })
 unfolding glance_at
 glance_again actors a low few = rw (actor_again actors a low few) refl
@@ -89,7 +104,7 @@ unfolding action_at
 told_again actors text a (Ask (Enqueue at class wire)) low few h = rw h.3 (enqueue_again actors a at class h.0 wire.items low few h.2 h.1)
 told_again actors text a (Ask (Pace at)) low few h = rw h.1 (pace_again actors a at low few h.0)
 told_again actors text a (Ask (Report at bytes)) low few h = rw h.3 (report_again actors a at h.0 bytes.items low few h.2 h.1)
-told_again actors text a (Ask (Configure at change)) low few h = absurd h
+told_again actors text a (Ask (Configure at change)) low few h = rw h.3 (configure_again actors a at h.0 change low few h.2 h.1)
 told_again actors text a Look low few h = rw h (glance_again actors a low few)
 
 pub action_again : (actors : ℕ) (text : List ℕ) (line : Line) → actors ≤ 2 ^ 32 → IsLine actors text line → action_at actors text ≡ Ok (settled_line line)
@@ -100,41 +115,13 @@ told_other : (text : List ℕ) (a : ℕ) (action : Action) → IsAction text a a
 told_other text a (Ask (Enqueue at class wire)) h = rw h.3 refl
 told_other text a (Ask (Pace at)) h = rw h.1 refl
 told_other text a (Ask (Report at bytes)) h = rw h.3 refl
-told_other text a (Ask (Configure at change)) h = absurd h
+told_other text a (Ask (Configure at change)) h = rw h.3 refl
 told_other text a Look h = rw h refl
 
 pub action_other : (actors : ℕ) (text : List ℕ) (line : Line) → IsLine actors text line → is_end text ≡ false
 action_other actors text line h = told_other text line.actor line.action h.1
 
 -- ---- no line feed stands in a line
-
-Lacks-append : (mark : ℕ) (xs ys : List ℕ) → Lacks mark xs → Lacks mark ys → Lacks mark (xs ++ ys)
-Lacks-append mark [] ys one other = other
-Lacks-append mark (x ∷ xs) ys one other = (one.0, Lacks-append mark xs ys one.1 other)
-
-feedless_letter : (class : Class) → Lacks 10 (letter_of class)
-feedless_letter Audio = (refl, tt)
-feedless_letter Retransmission = (refl, tt)
-feedless_letter Video = (refl, tt)
-feedless_letter Fec = (refl, tt)
-
-feed_is_no_digit : (b : ℕ) → is_hex_digit b ≡ true → b ≡ 10 → ⊥
-feed_is_no_digit b digit is = let wrong = rw is at digit in cc
-
-feedless_hex : (text bytes : List ℕ) → decode_of text ≡ Ok bytes → Lacks 10 text
-feedless_hex text bytes is = Lacks-from_each 10 text (λ k lt. ne_eqb (get_or text k 0) 10 (feed_is_no_digit (get_or text k 0) ((decode_of-ok text bytes is).1 k 0 lt)))
-
-feedless : (text : List ℕ) (a : ℕ) (action : Action) → a < 2 ^ 64 → IsAction text a action → Lacks 10 text
-feedless text a (Ask (Enqueue at class wire)) few h =
-    let back : Lacks 10 (letter_of class ++ 32 ∷ h.0) = Lacks-append 10 (letter_of class) (32 ∷ h.0) (feedless_letter class) (refl, feedless_hex h.0 wire.items h.1.1) in
-    let middle : Lacks 10 (decimal at ++ 32 ∷ (letter_of class ++ 32 ∷ h.0)) = Lacks-append 10 (decimal at) (32 ∷ (letter_of class ++ 32 ∷ h.0)) (Lacks-decimal 10 at (omega arith) h.2) (refl, back) in
-    rw h.3 (refl, (refl, Lacks-append 10 (decimal a) (32 ∷ (decimal at ++ 32 ∷ (letter_of class ++ 32 ∷ h.0))) (Lacks-decimal 10 a (omega arith) few) (refl, middle)))
-feedless text a (Ask (Pace at)) few h = rw h.1 (refl, (refl, Lacks-append 10 (decimal a) (32 ∷ decimal at) (Lacks-decimal 10 a (omega arith) few) (refl, Lacks-decimal 10 at (omega arith) h.0)))
-feedless text a (Ask (Report at bytes)) few h =
-    let back : Lacks 10 (decimal at ++ 32 ∷ h.0) = Lacks-append 10 (decimal at) (32 ∷ h.0) (Lacks-decimal 10 at (omega arith) h.2) (refl, feedless_hex h.0 bytes.items h.1.1) in
-    rw h.3 (refl, (refl, Lacks-append 10 (decimal a) (32 ∷ (decimal at ++ 32 ∷ h.0)) (Lacks-decimal 10 a (omega arith) few) (refl, back)))
-feedless text a (Ask (Configure at change)) few h = absurd h
-feedless text a Look few h = rw h (refl, (refl, Lacks-decimal 10 a (omega arith) few))
 
 feedless_header : (actors : ℕ) → actors < 2 ^ 64 → Lacks 10 (header actors)
 feedless_header actors few = (refl, (refl, (refl, (refl, (refl, (refl, (refl, (refl, (refl, (refl, (refl, (refl, Lacks-decimal 10 actors (omega arith) few))))))))))))
@@ -148,15 +135,15 @@ end_line : lines_of (fed (codes "end")) ≡ record { whole = codes "end" ∷ [];
 unfolding lines_of
 end_line = refl
 
-fed_lines : (actors : ℕ) (texts : List (List ℕ)) (lines : List Line) → actors ≤ 2 ^ 32 → AllZip (IsLine actors) texts lines
+fed_lines : (actors : ℕ) (texts : List (List ℕ)) (lines : List Line) → actors ≤ 2 ^ 32 → AllByRecursion IsLineText texts → AllZip (IsLine actors) texts lines
     → lines_of (flat_map fed texts ++ fed (codes "end")) ≡ record { whole = texts ++ codes "end" ∷ []; rest = [] }
-fed_lines actors [] [] few h = end_line
-fed_lines actors [] (line ∷ lines) few h = absurd h
-fed_lines actors (text ∷ texts) [] few h = absurd h
-fed_lines actors (text ∷ texts) (line ∷ lines) few h =
-    let lacks = feedless text line.actor line.action (omega (arith, h.0.0)) h.0.1 in
+fed_lines actors [] [] few whole h = end_line
+fed_lines actors [] (line ∷ lines) few whole h = absurd h
+fed_lines actors (text ∷ texts) [] few whole h = absurd h
+fed_lines actors (text ∷ texts) (line ∷ lines) few whole h =
+    let lacks = Lacks-from_All text (recursion_from_All (λ b. b ≢ 10) text whole.0) in
     ap lines_of (append_assoc (fed text) (flat_map fed texts) (fed (codes "end"))) ∙ fed_line text (flat_map fed texts ++ fed (codes "end")) lacks
-    ∙ rw (fed_lines actors texts lines few h.1) refl
+    ∙ rw (fed_lines actors texts lines few whole.1 h.1) refl
 
 pub header_again : (actors : ℕ) → 0 < actors → actors ≤ MOST_ACTORS → header_at (header actors) ≡ Ok actors
 unfolding header_at
@@ -219,7 +206,7 @@ trace_again most bytes trace h few =
     let count = length-zip (IsLine trace.actors) h.texts trace.lines h.actions in
     let actors : trace.actors ≤ 2 ^ 32 = omega (arith, h.few_actors) in
     let cut : lines_of (fed (header trace.actors) ++ (flat_map fed h.texts ++ fed (codes "end"))) ≡ record { whole = header trace.actors ∷ (h.texts ++ codes "end" ∷ []); rest = [] }
-    = fed_line (header trace.actors) (flat_map fed h.texts ++ fed (codes "end")) (feedless_header trace.actors (omega arith)) ∙ rw (fed_lines trace.actors h.texts trace.lines actors h.actions) refl in
+    = fed_line (header trace.actors) (flat_map fed h.texts ++ fed (codes "end")) (feedless_header trace.actors (omega arith)) ∙ rw (fed_lines trace.actors h.texts trace.lines actors (recursion_from_All IsLineText h.texts h.feedless) h.actions) refl in
     let all : lines_of bytes ≡ record { whole = header trace.actors ∷ (h.texts ++ codes "end" ∷ []); rest = [] } = ap lines_of h.spelled ∙ cut in
     let read = actions_before most trace.actors 2 (2 + length h.texts) h.texts (codes "end" ∷ []) [] trace.lines actors h.actions refl (omega arith)
     ∙ ap (with_lines (map settled_line trace.lines)) (last_line most trace.actors (2 + length h.texts)) ∙ with_lines-ok (map settled_line trace.lines) [] ∙ ap (λ (ls : List Line). Ok ls) (append-nil (map settled_line trace.lines)) in

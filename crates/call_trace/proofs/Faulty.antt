@@ -11,10 +11,12 @@ use Rattle.call_trace.specs.declared.fault.TraceFault.{TraceFault}
 use Rattle.call_trace.specs.declared.trace.Line.{Line}
 use Rattle.call_trace.specs.Plain.{Plain, settled_line}
 use Rattle.call_trace.specs.Fields.{lines_of, number_of}
-use Rattle.call_trace.specs.Reading.{◌>>=◌, or_reason, fault, action_at, at_line, is_end, ended, actions_at, title, from_one, header_at, lines_at, trace_at}
+use Rattle.call_trace.specs.Steps.{◌>>=◌, or_reason}
+use Rattle.call_trace.specs.Reading.{fault, action_at, at_line, is_end, ended, actions_at, title, from_one, header_at, lines_at, trace_at}
 use Rattle.call_trace.specs.Grammar.{IsLine, header}
 use Rattle.call_trace.specs.Faults.{IsHeader, Begins, IsFirstFault, no_line, no_header, bad_line, too_many, no_end, behind_end}
-use Rattle.call_trace.proofs.Found.{ok_is, action_found}
+use Rattle.call_trace.proofs.StepsTaken.{ok_is}
+use Rattle.call_trace.proofs.Found.{action_found}
 use Rattle.call_trace.proofs.Whole.{is_end_text, header_found}
 use Rattle.call_trace.proofs.Again.{header_again, with_lines, with_lines-err, actions_before}
 use Rattle.call_trace.proofs.BadLines.{action_fails}

@@ -8,7 +8,8 @@ use Rattle.call_trace.specs.declared.fault.Bad.TheVariants as bad
 use Rattle.call_trace.specs.declared.fault.TraceFault.{TraceFault}
 use Rattle.call_trace.specs.declared.trace.Line.{Line}
 use Rattle.call_trace.specs.Fields.{is_feed, Cut, begun, lines_of}
-use Rattle.call_trace.specs.Reading.{◌>>=◌, Fails, FailsTrace, located, fault, action_at, is_end, ended, actions_at}
+use Rattle.call_trace.specs.Steps.{◌>>=◌, Fails}
+use Rattle.call_trace.specs.Reading.{FailsTrace, located, fault, action_at, is_end, ended, actions_at}
 
 -- what the lines read so far and the others give together
 abbrev pub with_front : List Line → Result (List Line) TraceFault → Result (List Line) TraceFault

@@ -1,40 +1,25 @@
 -- Whole traces: what is read is spelled so.
-use Rattle.std.proofs.Common.{◌≡◌, ℕ, ◌+◌, ◌^◌, ◌<◌, ◌≤◌, Bool, true, false, cond, ltb, ◌&&◌, List, [], ◌∷◌, ◌++◌, length, take, drop, map, Result, Ok, Err, refl, sym, ap, subst, ◌∙◌, append_assoc, arith, inl, inr}
+use Rattle.std.proofs.Common.{◌≡◌, ℕ, ◌+◌, ◌^◌, ◌<◌, ◌≤◌, true, ltb, ◌&&◌, List, [], ◌∷◌, ◌++◌, length, take, drop, map, Result, Ok, Err, refl, sym, ap, subst, ◌∙◌, append_assoc, arith, inl, inr}
 use Rattle.std.proofs.Math.Dec.{leb}
 use Rattle.std.specs.Prelude.{codes, nat_eq}
 use Rattle.std.specs.List.{flat_map, AllZip, All, AllByRecursion}
 use Rattle.std.specs.Fmt.{decimal}
 use Rattle.std.specs.Cmp.Lexicographic.{pointwise, same_text}
-use Rattle.std.proofs.lemmas.Bool.{cases_Bool, eqb-true, ltb-false, leb-true, and_parts}
+use Rattle.std.proofs.lemmas.Bool.{cases_Bool, ltb-false, leb-true, and_parts}
 use Rattle.std.proofs.lemmas.List.{append-nil, take-append-drop}
-use Rattle.std.proofs.lemmas.List.Elements.{All-from_recursion}
+use Rattle.std.proofs.lemmas.List.Elements.{All-from_recursion, recursion_from_All}
 use Rattle.gcc_units.specs.declared.limits.TheConstants.{MOST_ACTORS}
 use Rattle.call_trace.specs.declared.fault.TheConstants.{NO_HEADER}
 use Rattle.call_trace.specs.declared.trace.Line.{Line}
 use Rattle.call_trace.specs.Plain.{Plain, settled_line, settled, FitsLine}
-use Rattle.call_trace.specs.Fields.{fed, is_feed, Cut, begun, lines_of, number_of}
-use Rattle.call_trace.specs.Reading.{◌>>=◌, or_reason, action_at, at_line, is_end, ended, actions_at, title, from_one, header_at, lines_at, trace_at}
+use Rattle.call_trace.specs.Fields.{IsLineText, fed, lines_of, IsCut, number_of}
+use Rattle.call_trace.specs.Steps.{◌>>=◌, or_reason}
+use Rattle.call_trace.specs.Reading.{action_at, at_line, is_end, ended, actions_at, title, from_one, header_at, lines_at, trace_at}
 use Rattle.call_trace.specs.Grammar.{IsLine, header, IsTrace}
+use Rattle.call_trace.proofs.Cutting.{lines_cut}
 use Rattle.call_trace.proofs.Numbers.{number_spells}
-use Rattle.call_trace.proofs.Found.{bind_ok, ok_is, or_reason_ok, guard_ok, IsRead, action_found}
-
--- ---- lines
-
-joined_begun : (b : ℕ) (lines : List (List ℕ)) (rest : List ℕ) → b ∷ (flat_map fed lines ++ rest) ≡ flat_map fed (begun b lines rest).whole ++ (begun b lines rest).rest
-joined_begun b [] rest = refl
-joined_begun b (line ∷ lines) rest = refl
-
-joined_cut : (b : ℕ) (feed : Bool) (cut : Cut) → is_feed b ≡ feed
-    → b ∷ (flat_map fed cut.whole ++ cut.rest)
-    ≡ flat_map fed (cond feed (record { whole = [] ∷ cut.whole; rest = cut.rest }) (begun b cut.whole cut.rest)).whole ++ (cond feed (record { whole = [] ∷ cut.whole; rest = cut.rest }) (begun b cut.whole cut.rest)).rest
-joined_cut b true cut is = ap (λ (x : ℕ). x ∷ (flat_map fed cut.whole ++ cut.rest)) (eqb-true b 10 is)
-joined_cut b false cut is = joined_begun b cut.whole cut.rest
-
--- the lines with their line feeds, and the rest, are the bytes
-pub lines_join : (bytes : List ℕ) → bytes ≡ flat_map fed (lines_of bytes).whole ++ (lines_of bytes).rest
-unfolding lines_of
-lines_join [] = refl
-lines_join (b ∷ bytes) = ap (λ (t : List ℕ). b ∷ t) (lines_join bytes) ∙ joined_cut b (is_feed b) (lines_of bytes) refl
+use Rattle.call_trace.proofs.StepsTaken.{bind_ok, ok_is, or_reason_ok, guard_ok}
+use Rattle.call_trace.proofs.Found.{IsRead, action_found}
 
 -- ---- the end
 
@@ -145,7 +130,11 @@ spelled_by : (line : List ℕ) (lines texts : List (List ℕ)) (rest : List ℕ)
     → flat_map fed (line ∷ lines) ++ rest ≡ fed (header actors) ++ (flat_map fed texts ++ fed (codes "end"))
 spelled_by line lines texts rest actors is ends all = rw (is, ends, all) (append-nil (fed (header actors) ++ flat_map fed (texts ++ codes "end" ∷ [])) ∙ ap (λ (t : List ℕ). fed (header actors) ++ t) (flat_map_fed texts))
 
-lines_found : (most : ℕ) (bytes : List ℕ) (whole : List (List ℕ)) (rest : List ℕ) (trace : Plain) → bytes ≡ flat_map fed whole ++ rest → lines_at most whole rest ≡ Ok trace → IsReadTrace most bytes trace
+front_lines : (texts more : List (List ℕ)) → AllByRecursion IsLineText (texts ++ more) → AllByRecursion IsLineText texts
+front_lines [] more all = tt
+front_lines (text ∷ texts) more all = (all.0, front_lines texts more all.1)
+
+lines_found : (most : ℕ) (bytes : List ℕ) (whole : List (List ℕ)) (rest : List ℕ) (trace : Plain) → IsCut bytes (record { whole = whole; rest = rest }) → lines_at most whole rest ≡ Ok trace → IsReadTrace most bytes trace
 unfolding lines_at
 lines_found most bytes [] rest trace is e = absurd cc
 lines_found most bytes (line ∷ lines) rest trace is e =
@@ -160,7 +149,8 @@ lines_found most bytes (line ∷ lines) rest trace is e =
         few_actors = head.2;
         texts = read.texts;
         actions = read.actions;
-        spelled = is ∙ spelled_by line lines read.texts rest a.0 head.0 read.ends read.all;
+        feedless = All-from_recursion IsLineText read.texts (front_lines read.texts (codes "end" ∷ []) (rw read.ends at (recursion_from_All IsLineText (line ∷ lines) is.whole).1));
+        spelled = is.joined ∙ spelled_by line lines read.texts rest a.0 head.0 read.ends read.all;
       };
       settled = ap (λ (ls : List Line). record { actors = a.0; lines = ls }) read.settled;
       few = omega (arith, read.few);
@@ -169,4 +159,4 @@ lines_found most bytes (line ∷ lines) rest trace is e =
     subst (λ (t : Plain). IsReadTrace most bytes t) {x = made} (ok_is made trace b.2) all
 
 pub trace_found : (most : ℕ) (bytes : List ℕ) (trace : Plain) → trace_at most bytes ≡ Ok trace → IsReadTrace most bytes trace
-trace_found most bytes trace e = lines_found most bytes (lines_of bytes).whole (lines_of bytes).rest trace (lines_join bytes) e
+trace_found most bytes trace e = lines_found most bytes (lines_of bytes).whole (lines_of bytes).rest trace (lines_cut bytes) e

@@ -5,12 +5,14 @@ use Rattle.std.specs.Fmt.{decimal}
 use Rattle.std.specs.Cmp.Lexicographic.{pointwise}
 use Rattle.gcc_units.specs.declared.class.Class.{Class}
 use Rattle.gcc_units.specs.declared.limits.TheConstants.{MOST_ACTORS}
+use Rattle.send_core.specs.declared.call.Change.{Change}
 use Rattle.call_trace.specs.declared.fault.TheConstants.{NO_HEADER, NO_ACTOR, NO_VERB, NO_MOMENT, NO_HEX, TOO_MANY_LINES, NO_END, BEHIND_END}
 use Rattle.call_trace.specs.declared.fault.TraceFault.{TraceFault}
 use Rattle.call_trace.specs.declared.fault.ReadTrace.{ReadTrace}
 use Rattle.call_trace.specs.declared.fault.ReadTrace.TheVariants as read_trace
 use Rattle.call_trace.specs.declared.trace.Line.{Line}
 use Rattle.call_trace.specs.Fields.{field, behind, lines_of}
+use Rattle.call_trace.specs.Settings.{SpellsChange, IsNoChange}
 use Rattle.call_trace.specs.Reading.{fault}
 use Rattle.call_trace.specs.Grammar.{letter_of, IsHex, IsLine, header}
 
@@ -20,6 +22,7 @@ pub data Kind : Type 0 where
   moment : Kind
   class : Kind
   bytes : Kind
+  json : Kind
 
 -- the fields behind a verb
 abbrev pub kinds_of : List ℕ → Option (List Kind)
@@ -27,6 +30,7 @@ kinds_of verb =
     if pointwise nat_eq verb (codes "E") then Some (actor ∷ moment ∷ class ∷ bytes ∷ [])
     else if pointwise nat_eq verb (codes "P") then Some (actor ∷ moment ∷ [])
     else if pointwise nat_eq verb (codes "R") then Some (actor ∷ moment ∷ bytes ∷ [])
+    else if pointwise nat_eq verb (codes "C") then Some (actor ∷ moment ∷ json ∷ [])
     else if pointwise nat_eq verb (codes "G") then Some (actor ∷ [])
     else None
 
@@ -35,20 +39,22 @@ IsGood actors actor text = (n : ℕ) × (n < actors) × (text ≡ decimal n)
 IsGood actors moment text = (n : ℕ) × (n < 2 ^ 64) × (text ≡ decimal n)
 IsGood actors class text = (c : Class) × (text ≡ letter_of c)
 IsGood actors bytes text = (octets : List ℕ) × IsHex text octets
+IsGood actors json text = (change : Change) × SpellsChange text change
 
 -- why a field that is no good one is bad
-abbrev pub reason_of : Kind → ℕ
-reason_of actor = NO_ACTOR
-reason_of moment = NO_MOMENT
-reason_of class = NO_VERB
-reason_of bytes = NO_HEX
+abbrev pub IsReason : Kind → List ℕ → ℕ → Type 0
+IsReason actor text reason = reason ≡ NO_ACTOR
+IsReason moment text reason = reason ≡ NO_MOMENT
+IsReason class text reason = reason ≡ NO_VERB
+IsReason bytes text reason = reason ≡ NO_HEX
+IsReason json text reason = IsNoChange text reason
 
 -- the first bad one of a text's fields has this reason; the last field is all that is left, and one that is not there is empty
 abbrev pub IsFirstBad : ℕ → List Kind → List ℕ → ℕ → Type 0
 IsFirstBad actors [] text reason = ⊥
-IsFirstBad actors (kind ∷ []) text reason = (¬ IsGood actors kind text) × (reason ≡ reason_of kind)
+IsFirstBad actors (kind ∷ []) text reason = (¬ IsGood actors kind text) × IsReason kind text reason
 IsFirstBad actors (kind ∷ next ∷ kinds) text reason =
-    ((¬ IsGood actors kind (field text)) × (reason ≡ reason_of kind))
+    ((¬ IsGood actors kind (field text)) × IsReason kind (field text) reason)
     ⊎ (IsGood actors kind (field text) × IsFirstBad actors (next ∷ kinds) (behind text) reason)
 
 -- a line whose verb is none, or whose fields are these

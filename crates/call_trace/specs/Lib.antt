@@ -1,5 +1,8 @@
 pub mod Plain
 pub mod Fields
+pub mod Steps
+pub mod Settings
+pub mod ChangeReading
 pub mod Reading
 pub mod Grammar
 pub mod Merge

@@ -1,5 +1,5 @@
 -- Reading a trace line by line, and a line field by field, up to the first that is bad.
-use Rattle.std.specs.Prelude.{◌≡◌, ℕ, ◌+◌, nat_lt, nat_le, ◌==◌, ◌&&◌, Bool, if◌then◌else◌, List, [], ◌∷◌, length, take, drop, codes, nat_eq, Option, Some, None, Result, Ok, Err}
+use Rattle.std.specs.Prelude.{◌≡◌, ℕ, ◌+◌, nat_lt, nat_le, ◌==◌, ◌&&◌, Bool, if◌then◌else◌, List, [], ◌∷◌, length, take, drop, codes, nat_eq, Result, Ok, Err}
 use Rattle.std.specs.Cmp.Lexicographic.{pointwise}
 use Rattle.hex.specs.declared.error.FromHexError.{FromHexError}
 use Rattle.hex.specs.Hex.{decode_of}
@@ -7,7 +7,7 @@ use Rattle.gcc_units.specs.declared.class.Class.{Class}
 use Rattle.gcc_units.specs.declared.class.Class.TheVariants.{Audio, Retransmission, Video, Fec}
 use Rattle.gcc_units.specs.declared.limits.TheConstants.{MOST_ACTORS}
 use Rattle.gcc_units.specs.Listed.{Listed, bare}
-use Rattle.send_core.specs.declared.call.Call.TheVariants.{Enqueue, Pace, Report}
+use Rattle.send_core.specs.declared.call.Call.TheVariants.{Enqueue, Pace, Report, Configure}
 use Rattle.call_trace.specs.declared.fault.TheConstants.{NO_HEADER, NO_ACTOR, NO_VERB, NO_MOMENT, NO_HEX, TOO_MANY_LINES, NO_END, BEHIND_END}
 use Rattle.call_trace.specs.declared.fault.Bad.{Bad}
 use Rattle.call_trace.specs.declared.fault.Bad.TheVariants as bad
@@ -17,28 +17,12 @@ use Rattle.call_trace.specs.declared.fault.ReadTrace.TheVariants as read_trace
 use Rattle.call_trace.specs.declared.trace.Line.{Line}
 use Rattle.call_trace.specs.declared.trace.Action.TheVariants.{Ask, Look}
 use Rattle.call_trace.specs.declared.trace.Trace.{Trace}
+use Rattle.call_trace.specs.Steps.{◌>>=◌, or_reason}
+use Rattle.call_trace.specs.ChangeReading.{json_at}
 use Rattle.call_trace.specs.Plain.{Plain, plain}
 use Rattle.call_trace.specs.Fields.{field, behind, lines_of, number_of}
 
-infixl 10 ◌>>=◌
-abbrev pub ◌>>=◌ : {A B E : Type 0} → Result A E → (A → Result B E) → Result B E
-(Ok x) >>= f = f x
-(Err e) >>= f = Err e
-
--- what a function answered is what reading gives, unless memory ran out
-abbrev pub Fails : {X : Type 0} → Bad → Result X ℕ → Type 0
-Fails bad.Memory read = Unit {0}
-Fails (bad.Reason r) read = read ≡ Err r
-
-abbrev pub Gives : {X : Type 0} → Result X Bad → Result X ℕ → Type 0
-Gives (Ok x) read = read ≡ Ok x
-Gives (Err e) read = Fails e read
-
 -- ---- fields
-
-abbrev pub or_reason : {A : Type 0} → ℕ → Option A → Result A ℕ
-or_reason r (Some x) = Ok x
-or_reason r None = Err r
 
 abbrev pub below : ℕ → ℕ → Result ℕ ℕ
 below actors n = if nat_lt n actors then Ok n else Err NO_ACTOR
@@ -93,6 +77,13 @@ report_at actors rest = do
   bytes ← hex_at (behind (behind rest))
   Ok (record { actor = actor; action = Ask (Report at bytes) })
 
+unfoldable pub configure_at : ℕ → List ℕ → Result Line ℕ
+configure_at actors rest = do
+  actor ← actor_at actors (field rest)
+  at ← moment_at (field (behind rest))
+  change ← json_at (behind (behind rest))
+  Ok (record { actor = actor; action = Ask (Configure at change) })
+
 unfoldable pub glance_at : ℕ → List ℕ → Result Line ℕ
 glance_at actors rest = do
   actor ← actor_at actors rest
@@ -103,6 +94,7 @@ verb_at actors letter rest =
     if letter == 69 then enqueue_at actors rest
     else if letter == 80 then pace_at actors rest
     else if letter == 82 then report_at actors rest
+    else if letter == 67 then configure_at actors rest
     else if letter == 71 then glance_at actors rest
     else Err NO_VERB
 

@@ -1,8 +1,10 @@
 //! Lines of action.
 
 ghost use Rattle.std.specs.Prelude.{◌≡◌, ◌≤◌, length};
-ghost use Rattle.call_trace.specs.Reading.{Gives, action_at, enqueue_at, pace_at, report_at, glance_at};
+ghost use Rattle.call_trace.specs.Steps.{Gives};
+ghost use Rattle.call_trace.specs.Reading.{action_at, enqueue_at, pace_at, report_at, configure_at, glance_at};
 
+use crate::change::change;
 use crate::fault::{Bad, NO_VERB};
 use crate::fields::{actor, class, cut, hex_bytes, moment};
 use crate::trace::{Action, Line};
@@ -54,6 +56,20 @@ fn report(alloc: Global, actors: u32, rest: &[u8]) -> Result<Line, Bad>
     Ok(Line { actor, action })
 }
 
+/// `ACTOR AT JSON`
+#[tactic(auto, unfolding(crate::specs::Reading::configure_at))]
+fn configure(alloc: Global, actors: u32, rest: &[u8]) -> Result<Line, Bad>
+    ensures { Gives result (configure_at actors rest.now) }
+{
+    let (first, rest) = cut(rest);
+    let actor = actor(actors, first)?;
+    let (second, rest) = cut(rest);
+    let at = moment(second)?;
+    let change = change(alloc, rest)?;
+    let action = Action::Ask(Call::Configure { at, change });
+    Ok(Line { actor, action })
+}
+
 /// `ACTOR`
 #[tactic(auto, unfolding(crate::specs::Reading::glance_at))]
 fn glance(actors: u32, rest: &[u8]) -> Result<Line, Bad>
@@ -77,6 +93,7 @@ pub fn action(alloc: Global, actors: u32, line: &[u8]) -> Result<Line, Bad>
         [b'E'] => enqueue(alloc, actors, rest),
         [b'P'] => pace(actors, rest),
         [b'R'] => report(alloc, actors, rest),
+        [b'C'] => configure(alloc, actors, rest),
         [b'G'] => glance(actors, rest),
         _ => Err(Bad::Reason(NO_VERB)),
     }

@@ -7,7 +7,8 @@ ghost use Rattle.call_trace.specs.Grammar.{IsTrace};
 ghost use Rattle.call_trace.specs.Faults.{IfFault, IsFirstFault};
 ghost use Rattle.call_trace.specs.declared.fault.TraceFault.{TraceFault};
 ghost use Rattle.call_trace.specs.Fields.{Cut, lines_of};
-ghost use Rattle.call_trace.specs.Reading.{Gives, GivesLines, GivesTrace, header_at, actions_at, trace_at, located};
+ghost use Rattle.call_trace.specs.Steps.{Gives};
+ghost use Rattle.call_trace.specs.Reading.{GivesLines, GivesTrace, header_at, actions_at, trace_at, located};
 
 use crate::action::action;
 use crate::fault::{BEHIND_END, Bad, NO_END, NO_HEADER, ReadTrace, TOO_MANY_LINES, TraceFault};

@@ -24,7 +24,7 @@ fn fault_of(rt: &(impl Abort + AllocGlobal), bytes: &[u8]) -> (u32, u32) {
 
 #[test]
 fn faults(rt: HostRuntime) {
-    let cases: [(&[u8], (u32, u32)); 46] = [
+    let cases: [(&[u8], (u32, u32)); 44] = [
         // The header, and what is missing.
         (b"", (1, NO_END)),
         (b"gcc-trace 1 1", (1, NO_END)),
@@ -45,8 +45,6 @@ fn faults(rt: HostRuntime) {
         (b"gcc-trace 1 2\nP 1 0\nend\n", (0, 0)),
         (b"gcc-trace 1 2\nP 2 0\nend\n", (2, NO_ACTOR)),
         (b"gcc-trace 1 2\nX 0 0\nend\n", (2, NO_VERB)),
-        (b"gcc-trace 1 2\nR 0 0 00\nend\n", (0, 0)),
-        (b"gcc-trace 1 2\nC 0 0 {}\nend\n", (2, NO_VERB)),
         (b"gcc-trace 1 2\nP 0 01\nend\n", (2, NO_MOMENT)),
         (b"gcc-trace 1 2\nE 0 0 q 00\nend\n", (2, NO_VERB)),
         (b"gcc-trace 1 2\nE 0 0 a 0\nend\n", (2, NO_HEX)),
@@ -83,6 +81,72 @@ fn faults(rt: HostRuntime) {
     for (index, (bytes, want)) in cases.iter().enumerate() {
         assert_eq!(rt; fault_of(&rt, bytes), *want, "at case {index}");
     }
+}
+
+/// The reason of a trace with this one line of action, 0 where there is none.
+fn reason_of(rt: &(impl Abort + AllocGlobal), line: &[u8]) -> Result<u32, Fail> {
+    let mut bytes = Vec::new(rt.alloc());
+    bytes.extend_from_slice(b"gcc-trace 1 1\n")?;
+    bytes.extend_from_slice(line)?;
+    bytes.extend_from_slice(b"\nend\n")?;
+    Ok(fault_of(rt, bytes.as_slice()).1)
+}
+
+#[test]
+fn reports(rt: HostRuntime) -> Result<(), Fail> {
+    assert_eq!(rt; reason_of(&rt, b"R 0 0 8fCD")?, 0);
+    assert_eq!(rt; reason_of(&rt, b"R 0 0 8fc")?, NO_HEX);
+    assert_eq!(rt; reason_of(&rt, b"R 0 0")?, NO_HEX);
+    Ok(())
+}
+
+#[test]
+fn no_objects(rt: HostRuntime) -> Result<(), Fail> {
+    assert_eq!(rt; reason_of(&rt, b"C 0 0")?, NO_OBJECT);
+    assert_eq!(rt; reason_of(&rt, b"C 0 0 []")?, NO_OBJECT);
+    assert_eq!(rt; reason_of(&rt, b"C 0 0 {\"min\":1000,}")?, NO_OBJECT);
+    assert_eq!(rt; reason_of(&rt, b"C 0 0 {\"min\":1e400}")?, NO_OBJECT);
+    Ok(())
+}
+
+#[test]
+fn wrong_keys(rt: HostRuntime) -> Result<(), Fail> {
+    assert_eq!(rt;
+        reason_of(&rt, b"C 0 0 {\"min\":\"a\",\"x\":1}")?,
+        WRONG_KEY
+    );
+    assert_eq!(rt; reason_of(&rt, b"C 0 0 {\"\":0}")?, WRONG_KEY);
+    assert_eq!(rt; reason_of(&rt, b"C 0 0 {\"streams\":[5,{}]}")?, WRONG_KEY);
+    Ok(())
+}
+
+#[test]
+fn wrong_values(rt: HostRuntime) -> Result<(), Fail> {
+    assert_eq!(rt; reason_of(&rt, b"C 0 0 {\"min\":1000.0}")?, WRONG_VALUE);
+    assert_eq!(rt; reason_of(&rt, b"C 0 0 {\"min\":-0}")?, WRONG_VALUE);
+    assert_eq!(rt; reason_of(&rt, b"C 0 0 {\"min\":null}")?, WRONG_VALUE);
+    assert_eq!(rt; reason_of(&rt, b"C 0 0 {\"streams\":[5]}")?, WRONG_VALUE);
+    assert_eq!(rt;
+        reason_of(&rt, b"C 0 0 {\"removed\":[4294967296]}")?,
+        WRONG_VALUE
+    );
+    Ok(())
+}
+
+#[test]
+fn changes(rt: HostRuntime) -> Result<(), Fail> {
+    assert_eq!(rt; reason_of(&rt, b"C 0 0 {}\r")?, 0);
+    assert_eq!(rt; reason_of(&rt, b"C 0 0  {} ")?, 0);
+    assert_eq!(rt;
+        reason_of(&rt, b"C 0 0 {\"min\":\"a\",\"min\":18446744073709551615}")?,
+        0
+    );
+    assert_eq!(rt; reason_of(&rt, b"C 0 0 {\"\\u006din\":1000}")?, 0);
+    assert_eq!(rt;
+        reason_of(&rt, b"C 0 0 {\"streams\":[],\"removed\":[4294967295]}")?,
+        0
+    );
+    Ok(())
 }
 
 #[test]

@@ -1,12 +1,10 @@
-use Rattle.std.proofs.Common.{◌≡◌, ◌+◌, ◌-◌, ◌<◌, ◌≤◌, ◌∷◌, [], ◌++◌, length, List, Result, Ok, Err, ℕ, Bool, true, false, sym, ◌∙◌, ap, nat_eq, codes, arith}
-use Rattle.std.specs.Prelude.{OnOk}
+use Rattle.std.proofs.Common.{◌≡◌, ◌+◌, ◌<◌, ◌≤◌, ◌∷◌, [], ◌++◌, length, List, ℕ, Bool, true, false, sym, ◌∙◌, ap, nat_eq, codes, arith}
 use Rattle.std.specs.Result.{is_err}
 use Rattle.std.proofs.lemmas.Bool.{eqb-true}
 use Rattle.std.specs.Cmp.Lexicographic.{pointwise}
-use Rattle.gcc_units.specs.Listed.{Listed, bare}
 use Rattle.gcc_units.specs.declared.limits.TheConstants.{MOST_LINES}
-use Rattle.call_trace.specs.declared.trace.Line.{Line}
 use Rattle.call_trace.specs.Reading.{is_end}
+use Rattle.call_trace.proofs.Pushed.{pushed, still_bare}
 use Rattle.call_trace.proofs.Loop.{ends_well, ends_badly, too_many, bad_line, good_line, no_more}
 use Rattle.call_trace.proofs.reading.actions.Goals as goal
 
@@ -14,22 +12,11 @@ use Rattle.call_trace.proofs.reading.actions.Goals as goal
 told : (line word : List ℕ) (b v : Bool) → b ≡ pointwise nat_eq line word → word ≡ codes "end" → b ≡ v → is_end line ≡ v
 told line word b v is end v-is = rw end at (sym is ∙ v-is)
 
--- what a push that did not fail promised
-pushed : {A E : Type 0} (r : Result A E) (P : Type 0) → OnOk r P → is_err r ≡ false → P
-pushed (Ok x) P p ok = p
-pushed (Err e) P p ok = absurd cc
-
 empty : (n : ℕ) (b : Bool) → b ≡ nat_eq n 0 → b ≡ true → n ≡ 0
 empty n b is zero_is = eqb-true n 0 (sym is ∙ zero_is)
 
 filled : (n : ℕ) (b : Bool) → b ≡ nat_eq n 0 → b ≡ false → 0 < n
 filled n b is some = grind arith
-
-still_bare : (new old : Listed Line) (first : Line) → new ≡ record { items = old.items ++ first ∷ []; spare = old.spare - 1 } → old ≡ bare old.items → new ≡ bare new.items
-still_bare new old first grown was =
-    let none : old.spare ≡ 0 = ap (λ (l : Listed Line). l.spare) was in
-    let made : new ≡ bare (old.items ++ first ∷ []) = rw none at grown in
-    made ∙ ap bare (sym (ap (λ (l : Listed Line). l.items) grown))
 
 pub returns-then-is_empty : goal.returns-then-is_empty
 returns-then-is_empty c =

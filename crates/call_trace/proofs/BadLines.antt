@@ -13,7 +13,7 @@ use Rattle.call_trace.specs.declared.trace.Line.{Line}
 use Rattle.call_trace.specs.Fields.{field, behind, number_of}
 use Rattle.call_trace.specs.Steps.{◌>>=◌, or_reason}
 use Rattle.call_trace.specs.Reading.{below, actor_at, moment_at, class_at, decoded, hex_at, enqueue_at, pace_at, report_at, configure_at, glance_at, fields_at, action_at}
-use Rattle.call_trace.specs.Faults.{Kind, actor, moment, class, bytes, json, kinds_of, IsGood, IsReason, IsFirstBad, IsBadOf, IsBadLine}
+use Rattle.call_trace.specs.Faults.{Kind, actor, moment, class, hex, json, kinds_of, IsGood, IsReason, IsFirstBad, IsBadOf, IsBadLine}
 use Rattle.call_trace.proofs.Found.{actor_found, moment_found, class_found, hex_found}
 use Rattle.call_trace.specs.ChangeReading.{json_at}
 use Rattle.call_trace.specs.Plain.{settled_change}
@@ -88,9 +88,9 @@ class_tells actors text =
     (λ r e. class_err text r e)
     (λ r s one other. cc)
 
-bytes_tells : (actors : ℕ) (text : List ℕ) → Tells actors bytes text (hex_at text)
-bytes_tells actors text =
-    told actors bytes text (hex_at text) (hex_at text) refl
+hex_tells : (actors : ℕ) (text : List ℕ) → Tells actors hex text (hex_at text)
+hex_tells actors text =
+    told actors hex text (hex_at text) (hex_at text) refl
     (λ w e. (w.items, (hex_found text w e).0))
     (λ good. (bare good.0, hex_again text good.0 good.1))
     (λ r e. hex_err text r e)
@@ -139,13 +139,13 @@ more actors kind next kinds text read rest (inr bad) others =
       again = λ r either. elim either [ inl first ↦ is ∙ ap (λ q. Err q) (bad.4 r first.1) | inr later ↦ absurd (bad.0 later.0) ];
     }
 
-enqueue_fails : (actors : ℕ) (rest : List ℕ) → actors ≤ 2 ^ 32 → FailsWhere (enqueue_at actors rest) (IsFirstBad actors (actor ∷ moment ∷ class ∷ bytes ∷ []) rest)
+enqueue_fails : (actors : ℕ) (rest : List ℕ) → actors ≤ 2 ^ 32 → FailsWhere (enqueue_at actors rest) (IsFirstBad actors (actor ∷ moment ∷ class ∷ hex ∷ []) rest)
 unfolding enqueue_at
 enqueue_fails actors rest few =
-    more actors actor moment (class ∷ bytes ∷ []) rest _ _ (actor_tells actors (field rest) few)
-    (λ a. more actors moment class (bytes ∷ []) (behind rest) _ _ (moment_tells actors (field (behind rest)))
-    (λ at. more actors class bytes [] (behind (behind rest)) _ _ (class_tells actors (field (behind (behind rest))))
-    (λ c. last actors bytes (behind (behind (behind rest))) _ _ (bytes_tells actors (behind (behind (behind rest)))) (λ wire. (record { actor = a; action = Ask (Enqueue at c wire) }, refl)))))
+    more actors actor moment (class ∷ hex ∷ []) rest _ _ (actor_tells actors (field rest) few)
+    (λ a. more actors moment class (hex ∷ []) (behind rest) _ _ (moment_tells actors (field (behind rest)))
+    (λ at. more actors class hex [] (behind (behind rest)) _ _ (class_tells actors (field (behind (behind rest))))
+    (λ c. last actors hex (behind (behind (behind rest))) _ _ (hex_tells actors (behind (behind (behind rest)))) (λ wire. (record { actor = a; action = Ask (Enqueue at c wire) }, refl)))))
 
 pace_fails : (actors : ℕ) (rest : List ℕ) → actors ≤ 2 ^ 32 → FailsWhere (pace_at actors rest) (IsFirstBad actors (actor ∷ moment ∷ []) rest)
 unfolding pace_at
@@ -153,12 +153,12 @@ pace_fails actors rest few =
     more actors actor moment [] rest _ _ (actor_tells actors (field rest) few)
     (λ a. last actors moment (behind rest) _ _ (moment_tells actors (behind rest)) (λ at. (record { actor = a; action = Ask (Pace at) }, refl)))
 
-report_fails : (actors : ℕ) (rest : List ℕ) → actors ≤ 2 ^ 32 → FailsWhere (report_at actors rest) (IsFirstBad actors (actor ∷ moment ∷ bytes ∷ []) rest)
+report_fails : (actors : ℕ) (rest : List ℕ) → actors ≤ 2 ^ 32 → FailsWhere (report_at actors rest) (IsFirstBad actors (actor ∷ moment ∷ hex ∷ []) rest)
 unfolding report_at
 report_fails actors rest few =
-    more actors actor moment (bytes ∷ []) rest _ _ (actor_tells actors (field rest) few)
-    (λ a. more actors moment bytes [] (behind rest) _ _ (moment_tells actors (field (behind rest)))
-    (λ at. last actors bytes (behind (behind rest)) _ _ (bytes_tells actors (behind (behind rest))) (λ octets. (record { actor = a; action = Ask (Report at octets) }, refl))))
+    more actors actor moment (hex ∷ []) rest _ _ (actor_tells actors (field rest) few)
+    (λ a. more actors moment hex [] (behind rest) _ _ (moment_tells actors (field (behind rest)))
+    (λ at. last actors hex (behind (behind rest)) _ _ (hex_tells actors (behind (behind rest))) (λ octets. (record { actor = a; action = Ask (Report at octets) }, refl))))
 
 configure_fails : (actors : ℕ) (rest : List ℕ) → actors ≤ 2 ^ 32 → FailsWhere (configure_at actors rest) (IsFirstBad actors (actor ∷ moment ∷ json ∷ []) rest)
 unfolding configure_at

@@ -15,3 +15,4 @@ pub mod Again
 pub mod Merging
 pub mod BadLines
 pub mod Faulty
+pub mod Fronts

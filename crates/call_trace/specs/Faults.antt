@@ -21,15 +21,15 @@ pub data Kind : Type 0 where
   actor : Kind
   moment : Kind
   class : Kind
-  bytes : Kind
+  hex : Kind
   json : Kind
 
 -- the fields behind a verb
 abbrev pub kinds_of : List ℕ → Option (List Kind)
 kinds_of verb =
-    if pointwise nat_eq verb (codes "E") then Some (actor ∷ moment ∷ class ∷ bytes ∷ [])
+    if pointwise nat_eq verb (codes "E") then Some (actor ∷ moment ∷ class ∷ hex ∷ [])
     else if pointwise nat_eq verb (codes "P") then Some (actor ∷ moment ∷ [])
-    else if pointwise nat_eq verb (codes "R") then Some (actor ∷ moment ∷ bytes ∷ [])
+    else if pointwise nat_eq verb (codes "R") then Some (actor ∷ moment ∷ hex ∷ [])
     else if pointwise nat_eq verb (codes "C") then Some (actor ∷ moment ∷ json ∷ [])
     else if pointwise nat_eq verb (codes "G") then Some (actor ∷ [])
     else None
@@ -38,7 +38,7 @@ abbrev pub IsGood : ℕ → Kind → List ℕ → Type 0
 IsGood actors actor text = (n : ℕ) × (n < actors) × (text ≡ decimal n)
 IsGood actors moment text = (n : ℕ) × (n < 2 ^ 64) × (text ≡ decimal n)
 IsGood actors class text = (c : Class) × (text ≡ letter_of c)
-IsGood actors bytes text = (octets : List ℕ) × IsHex text octets
+IsGood actors hex text = (octets : List ℕ) × IsHex text octets
 IsGood actors json text = (change : Change) × SpellsChange text change
 
 -- why a field that is no good one is bad
@@ -46,7 +46,7 @@ abbrev pub IsReason : Kind → List ℕ → ℕ → Type 0
 IsReason actor text reason = reason ≡ NO_ACTOR
 IsReason moment text reason = reason ≡ NO_MOMENT
 IsReason class text reason = reason ≡ NO_VERB
-IsReason bytes text reason = reason ≡ NO_HEX
+IsReason hex text reason = reason ≡ NO_HEX
 IsReason json text reason = IsNoChange text reason
 
 -- the first bad one of a text's fields has this reason; the last field is all that is left, and one that is not there is empty
@@ -98,6 +98,10 @@ pub data IsFirstFault (most : ℕ) (bytes : List ℕ) (f : TraceFault) : Type 0 
   -- bytes stand behind `end`
   behind_end : (actors : ℕ) (before after : List (List ℕ)) → Begins most bytes actors before (codes "end" ∷ after) → 0 < length after + length (lines_of bytes).rest
       → f ≡ fault (length before + 3) BEHIND_END → IsFirstFault most bytes f
+
+-- the fault of bytes that begin with no trace of at most so many lines of action
+abbrev pub IsFrontFault : ℕ → List ℕ → TraceFault → Type 0
+IsFrontFault most bytes f = IsFirstFault most bytes f × (f.reason ≢ BEHIND_END)
 
 -- a fact of the fault; where memory ran out, none is told
 abbrev pub IfFault : ReadTrace → (TraceFault → Type 0) → Type 0

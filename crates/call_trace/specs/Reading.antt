@@ -1,5 +1,6 @@
 -- Reading a trace line by line, and a line field by field, up to the first that is bad.
-use Rattle.std.specs.Prelude.{◌≡◌, ℕ, ◌+◌, nat_lt, nat_le, ◌==◌, ◌&&◌, Bool, if◌then◌else◌, List, [], ◌∷◌, length, take, drop, codes, nat_eq, Result, Ok, Err}
+use Rattle.std.specs.Prelude.{◌≡◌, ℕ, ◌+◌, ◌-◌, nat_lt, nat_le, ◌==◌, ◌&&◌, Bool, if◌then◌else◌, List, [], ◌∷◌, ◌++◌, length, take, drop, codes, nat_eq, Result, Ok, Err}
+use Rattle.std.specs.List.{flat_map}
 use Rattle.std.specs.Cmp.Lexicographic.{pointwise}
 use Rattle.hex.specs.declared.error.FromHexError.{FromHexError}
 use Rattle.hex.specs.Hex.{decode_of}
@@ -20,7 +21,7 @@ use Rattle.call_trace.specs.declared.trace.Trace.{Trace}
 use Rattle.call_trace.specs.Steps.{◌>>=◌, or_reason}
 use Rattle.call_trace.specs.ChangeReading.{json_at}
 use Rattle.call_trace.specs.Plain.{Plain, plain}
-use Rattle.call_trace.specs.Fields.{field, behind, lines_of, number_of}
+use Rattle.call_trace.specs.Fields.{field, behind, lines_of, fed, number_of}
 
 -- ---- fields
 
@@ -118,22 +119,21 @@ at_line k (Err r) = Err (fault k r)
 abbrev pub is_end : List ℕ → Bool
 is_end line = pointwise nat_eq line (codes "end")
 
--- behind the end nothing may stand, neither lines nor a rest
-abbrev pub ended : ℕ → List (List ℕ) → List ℕ → Result (List Line) TraceFault
-ended k [] [] = Ok []
-ended k (line ∷ lines) rest = Err (fault k BEHIND_END)
-ended k [] (b ∷ rest) = Err (fault k BEHIND_END)
+-- lines of action, and the lines behind their end
+pub record Actions : Type 0 where
+  pub lines : List Line
+  pub after : List (List ℕ)
 
--- the lines of action, the first of them line k, up to the end; no more than most
-unfoldable pub actions_at : ℕ → ℕ → ℕ → List (List ℕ) → List ℕ → Result (List Line) TraceFault
-actions_at most actors k [] rest = Err (fault k NO_END)
-actions_at most actors k (line ∷ lines) rest =
-    if is_end line then ended (k + 1) lines rest
+-- the lines of action, the first of them line k, up to the line `end`; no more than most
+unfoldable pub actions_at : ℕ → ℕ → ℕ → List (List ℕ) → Result Actions TraceFault
+actions_at most actors k [] = Err (fault k NO_END)
+actions_at most actors k (line ∷ lines) =
+    if is_end line then Ok (record { lines = []; after = lines })
     else if nat_lt (most + 1) k then Err (fault k TOO_MANY_LINES)
     else (do
       first ← at_line k (action_at actors line)
-      others ← actions_at most actors (k + 1) lines rest
-      Ok (first ∷ others))
+      others ← actions_at most actors (k + 1) lines
+      Ok (record { lines = first ∷ others.lines; after = others.after }))
 
 -- the header's bytes before the number of actors
 abbrev pub title : List ℕ
@@ -148,17 +148,39 @@ header_at line =
     if pointwise nat_eq (take (length title) line) title then or_reason NO_HEADER (number_of (drop (length title) line)) >>= from_one
     else Err NO_HEADER
 
--- behind the first line
-unfoldable pub lines_at : ℕ → List (List ℕ) → List ℕ → Result Plain TraceFault
-lines_at most [] rest = Err (fault 1 NO_END)
-lines_at most (line ∷ lines) rest = do
+-- a trace, and the lines behind it
+pub record Front : Type 0 where
+  pub trace : Plain
+  pub after : List (List ℕ)
+
+unfoldable pub lines_at : ℕ → List (List ℕ) → Result Front TraceFault
+lines_at most [] = Err (fault 1 NO_END)
+lines_at most (line ∷ lines) = do
   actors ← at_line 1 (header_at line)
-  read ← actions_at most actors 2 lines rest
-  Ok (record { actors = actors; lines = read })
+  read ← actions_at most actors 2 lines
+  Ok (record { trace = record { actors = actors; lines = read.lines }; after = read.after })
+
+-- the trace that bytes begin with, or the first fault of one
+abbrev pub front_at : ℕ → List ℕ → Result Front TraceFault
+front_at most bytes = lines_at most (lines_of bytes).whole
+
+-- nothing stands behind the trace, neither lines nor a rest
+abbrev pub alone : Plain → List (List ℕ) → List ℕ → Result Plain TraceFault
+alone trace [] [] = Ok trace
+alone trace (line ∷ lines) rest = Err (fault (length trace.lines + 3) BEHIND_END)
+alone trace [] (b ∷ rest) = Err (fault (length trace.lines + 3) BEHIND_END)
 
 -- the trace that bytes spell, or their first fault; most is how many lines of action there may be
 abbrev pub trace_at : ℕ → List ℕ → Result Plain TraceFault
-trace_at most bytes = lines_at most (lines_of bytes).whole (lines_of bytes).rest
+trace_at most bytes = front_at most bytes >>= λ front. alone front.trace front.after (lines_of bytes).rest
+
+-- lines with their line feeds, and what stands behind the last
+abbrev pub joined : List (List ℕ) → List ℕ → List ℕ
+joined lines rest = flat_map fed lines ++ rest
+
+-- the trace that bytes begin with, and how many of the bytes it has
+abbrev pub counted_at : ℕ → List ℕ → Result (Plain × ℕ) TraceFault
+counted_at most bytes = front_at most bytes >>= λ front. Ok (front.trace, length bytes - length (joined front.after (lines_of bytes).rest))
 
 -- ---- what the reader answers
 
@@ -166,13 +188,14 @@ abbrev pub FailsTrace : {X : Type 0} → ReadTrace → Result X TraceFault → T
 FailsTrace read_trace.NoMemory read = Unit {0}
 FailsTrace (read_trace.Fault f) read = read ≡ Err f
 
-abbrev pub GivesLines : Result (Listed Line) ReadTrace → Result (List Line) TraceFault → Type 0
-GivesLines (Ok lines) read = (read ≡ Ok lines.items) × (lines ≡ bare lines.items)
-GivesLines (Err e) read = FailsTrace e read
-
 abbrev pub GivesTrace : Result Trace ReadTrace → Result Plain TraceFault → Type 0
 GivesTrace (Ok trace) read = read ≡ Ok (plain trace)
 GivesTrace (Err e) read = FailsTrace e read
+
+-- the trace, and how many bytes it has
+abbrev pub GivesFront : Result (Trace × ℕ) ReadTrace → Result (Plain × ℕ) TraceFault → Type 0
+GivesFront (Ok p) read = read ≡ Ok (plain p.0, p.1)
+GivesFront (Err e) read = FailsTrace e read
 
 abbrev pub located : ℕ → Bad → ReadTrace
 located line (bad.Reason reason) = read_trace.Fault (fault line reason)

@@ -20,7 +20,7 @@ pub use laws::{
     a_text_spells_one_change_or_none, lines_are_cut_at_line_feeds, lines_in_order_are_legal,
     lines_in_order_merge, no_bytes_spell_two_traces,
 };
-pub use reading::read_trace;
+pub use reading::{read_front, read_trace};
 pub use trace::{Action, Line, LineList, Trace};
 
 #[cfg(test)]

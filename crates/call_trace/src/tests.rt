@@ -162,6 +162,17 @@ fn every_proper_prefix_has_no_end(rt: HostRuntime) {
     }
 }
 
+#[test]
+fn a_front_is_counted(rt: HostRuntime) -> Result<(), Fail> {
+    let bytes = b"gcc-trace 1 1\nG 0\nend\ngcc-history 1\n";
+    let (trace, count) = read_front(rt.alloc(), bytes)
+        .ok()
+        .ok_or("a trace is there")?;
+    assert_eq!(rt; trace.lines.len(), 1);
+    assert_eq!(rt; count, 22);
+    Ok(())
+}
+
 /// The actor, the moment, the class and the packet of a line; a pace has neither of the last two.
 fn parts(line: &Line) -> (u32, u64, Option<Class>, &[u8]) {
     match &line.action {

@@ -16,3 +16,8 @@ pub mod Merging
 pub mod BadLines
 pub mod Faulty
 pub mod Fronts
+pub mod WrittenLists
+pub mod Present
+pub mod Compact
+pub mod ChangeText
+pub mod Spelling

@@ -5,6 +5,7 @@ pub mod Settings
 pub mod ChangeReading
 pub mod Reading
 pub mod Grammar
+pub mod Written
 pub mod Merge
 pub mod Ordered
 pub mod Faults

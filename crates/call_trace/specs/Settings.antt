@@ -92,6 +92,11 @@ abbrev pub IsListed : {A : Type 0} → (A → Data → Type 0) → List A → Op
 IsListed P xs None = xs ≡ []
 IsListed P xs (Some d) = IsListOf P xs d
 
+-- the id and the weight are below 2^32
+pub record IsSmallStream (s : Stream) : Type 0 where
+  pub id : s.id < 2 ^ 32
+  pub weight : s.weight < 2 ^ 32
+
 pub record IsStream (s : Stream) (d : Data) : Type 0 where
   pub id : IsThere IsSmall s.id (get (codes "id") d)
   pub min : IsThere IsWhole s.min (get (codes "min") d)

@@ -6,11 +6,13 @@
 
 mod action;
 mod change;
+mod change_value;
 mod fault;
 mod fields;
 mod laws;
 mod reading;
 mod trace;
+mod writing;
 
 pub use fault::{
     BEHIND_END, NO_ACTOR, NO_END, NO_HEADER, NO_HEX, NO_MOMENT, NO_OBJECT, NO_VERB, ReadTrace,
@@ -22,6 +24,7 @@ pub use laws::{
 };
 pub use reading::{read_front, read_trace};
 pub use trace::{Action, Line, LineList, Trace};
+pub use writing::write_trace;
 
 #[cfg(test)]
 mod tests;

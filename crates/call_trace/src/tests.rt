@@ -210,6 +210,35 @@ fn smallest_run(rt: HostRuntime) -> Result<(), Fail> {
     Ok(())
 }
 
+/// What the trace of these bytes is written as.
+fn written(rt: &(impl Abort + AllocGlobal), bytes: &[u8]) -> Result<Vec<u8>, Fail> {
+    assert!(rt; bytes.len() as u64 <= MOST_CHECK_BYTES);
+    let trace = read_trace(rt.alloc(), bytes).ok().ok_or("it is a trace")?;
+    let text = write_trace(rt.alloc(), &trace)
+        .ok()
+        .ok_or("memory is there")?;
+    Ok(text.into_vec())
+}
+
+#[test]
+fn hex_is_written_in_small_letters(rt: HostRuntime) -> Result<(), Fail> {
+    let text = written(&rt, b"gcc-trace 1 2\nE 1 5 f aF\nG 0\nend\n")?;
+    let want = b"gcc-trace 1 2\nE 1 5 f af\nG 0\nend\n".as_slice();
+    assert_eq!(rt; text.as_slice(), want);
+    Ok(())
+}
+
+#[test]
+fn keys_are_written_in_rising_order(rt: HostRuntime) -> Result<(), Fail> {
+    let text = written(
+        &rt,
+        b"gcc-trace 1 1\nC 0 5 { \"window\": 9, \"removed\": [], \"min\": 7 }\nend\n",
+    )?;
+    let want = b"gcc-trace 1 1\nC 0 5 {\"min\":7,\"window\":9}\nend\n".as_slice();
+    assert_eq!(rt; text.as_slice(), want);
+    Ok(())
+}
+
 /// A header, so many lines of action, and these bytes.
 fn long_trace(rt: &impl AllocGlobal, lines: u32, last: &[u8]) -> Result<Vec<u8>, Fail> {
     let mut bytes = Vec::new(rt.alloc());

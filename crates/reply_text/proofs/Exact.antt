@@ -1,5 +1,5 @@
 -- A text is legal exactly where each of its lines is good and its ending is right.
-use Rattle.std.proofs.Common.{◌≡◌, ℕ, suc, zero, ◌+◌, ◌<◌, ◌≤◌, List, [], ◌∷◌, ◌++◌, length, take, slice_get, Some, refl, sym, ◌∙◌, ap, subst, arith, append_assoc, length-append}
+use Rattle.std.proofs.Common.{◌≡◌, ℕ, suc, zero, ◌<◌, ◌≤◌, List, [], ◌∷◌, ◌++◌, length, take, slice_get, Some, refl, sym, ◌∙◌, ap, subst, arith, append_assoc, length-append}
 use Rattle.std.specs.List.{flat_map, All}
 use Rattle.std.proofs.lemmas.Bool.{eq-eqb}
 use Rattle.std.proofs.lemmas.Grind.{flat_map-append}
@@ -18,7 +18,7 @@ use Rattle.call_trace.specs.Merge.{call_in, made, calls_of, calls_by, Merges}
 use Rattle.reply_text.specs.declared.seen.Seen.{Seen}
 use Rattle.reply_text.specs.Text.{line_of, glance_lines, tail_line, text as printed}
 use Rattle.reply_text.specs.Legal.{IsLegalText}
-use Rattle.reply_text.specs.Verdict.{calls, IsNext, IsStep, title, Begins, IsEnding, DiffersAt}
+use Rattle.reply_text.specs.Verdict.{calls, IsStep, title, Begins, IsEnding, DiffersAt}
 use Rattle.reply_text.proofs.Steps.{begins_one, never_differs}
 use Rattle.reply_text.proofs.Lefts.{left_begins, begins_merges, merges_count, caller_below}
 

@@ -1,5 +1,5 @@
 -- How far the lines of a text were served.
-use Rattle.std.specs.Prelude.{◌≡◌, ℕ, ◌≤◌, ◌<◌, List, [], ◌∷◌, ◌++◌, length, take, slice_index, Option, None, Some}
+use Rattle.std.specs.Prelude.{◌≡◌, ℕ, ◌≤◌, ◌<◌, List, [], ◌∷◌, ◌++◌, length, take, slice_index}
 use Rattle.gcc_units.specs.declared.limits.TheConstants.{MOST_ACTORS}
 use Rattle.send_core.specs.declared.call.Entry.{Entry}
 use Rattle.call_trace.specs.declared.trace.Line.{Line}

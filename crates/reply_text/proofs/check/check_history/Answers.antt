@@ -1,8 +1,7 @@
-use Rattle.std.proofs.Common.{◌≡◌, ◌≤◌, ◌<◌, List, ℕ, length, true, false, refl, sym, ◌∙◌, ap, subst}
+use Rattle.std.proofs.Common.{◌≡◌, List, length, true, false, sym, ◌∙◌, subst}
 use Rattle.call_trace.specs.declared.trace.Line.{Line}
 use Rattle.reply_text.specs.declared.serving.Walked.{Walked}
-use Rattle.reply_text.specs.Legal.{IsLegalText}
-use Rattle.reply_text.specs.Verdict.{calls, Begins, IsEnding, DiffersAt, ending}
+use Rattle.reply_text.specs.Verdict.{calls, Begins, DiffersAt}
 use Rattle.reply_text.specs.Walking.{IsWalked}
 use Rattle.reply_text.specs.Looking.{AreTargets}
 use Rattle.reply_text.proofs.Lefts.{begins_merges}

@@ -1,6 +1,5 @@
-use Rattle.std.proofs.Common.{◌≡◌, ◌+◌, ◌≤◌, ◌<◌, List, true, false, refl, sym, ◌∙◌, ap, arith, length}
+use Rattle.std.proofs.Common.{◌≡◌, true, false, sym, ◌∙◌, arith, length}
 use Rattle.std.proofs.lemmas.Bool.{eqb-true, eq-eqb}
-use Rattle.reply_text.specs.declared.seen.Seen.{Seen}
 use Rattle.reply_text.proofs.AllGlances.{found_none, found_more, all_found, found_all}
 use Rattle.reply_text.proofs.looking.are_glances.Goals as goal
 

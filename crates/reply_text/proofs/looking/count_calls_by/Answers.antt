@@ -1,6 +1,5 @@
-use Rattle.std.proofs.Common.{◌≡◌, ◌+◌, ◌≤◌, ◌++◌, take, length, arith, sym, ◌∙◌, ap, length-append, refl}
+use Rattle.std.proofs.Common.{◌≡◌, ◌+◌, ◌++◌, take, length, arith, sym, ◌∙◌, ap, length-append, refl}
 use Rattle.std.proofs.lemmas.Bool.{eq-eqb, ne_eqb}
-use Rattle.send_core.specs.declared.call.Entry.{Entry}
 use Rattle.call_trace.specs.Merge.{made, calls_by}
 use Rattle.reply_text.proofs.Nexts.{flat_map-next}
 use Rattle.reply_text.proofs.looking.count_calls_by.Goals as goal

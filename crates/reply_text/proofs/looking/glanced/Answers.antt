@@ -1,6 +1,4 @@
-use Rattle.std.proofs.Common.{◌≡◌, ◌+◌, ◌≤◌, List, take, length, arith, length-take}
-use Rattle.send_core.specs.declared.call.Entry.{Entry}
-use Rattle.call_trace.specs.Merge.{calls_by}
+use Rattle.std.proofs.Common.{take, arith, length-take}
 use Rattle.reply_text.proofs.OwnGlances.{few_made}
 use Rattle.reply_text.proofs.looking.glanced.Goals as goal
 

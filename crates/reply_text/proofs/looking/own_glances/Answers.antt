@@ -1,8 +1,8 @@
-use Rattle.std.proofs.Common.{◌≡◌, ◌+◌, ◌≤◌, ◌<◌, List, ◌∷◌, ◌++◌, take, length, arith, length-take, get_or, ap, sym, ◌∙◌, subst, Bor}
+use Rattle.std.proofs.Common.{◌≡◌, ◌+◌, List, ◌∷◌, take, length, arith, length-take, ap, sym, ◌∙◌, subst, Bor}
 use Rattle.call_trace.specs.Merge.{asked}
 use Rattle.reply_text.specs.declared.looking.Standing.{Standing}
 use Rattle.reply_text.specs.declared.seen.Seen.{Seen}
-use Rattle.reply_text.proofs.OwnGlances.{IsGoing, IsAt, going_first, going_quiet, going_look, no_glance, seen_of, own_of, few_asked}
+use Rattle.reply_text.proofs.OwnGlances.{IsGoing, IsAt, going_quiet, going_look, few_asked}
 use Rattle.reply_text.proofs.looking.own_glances.Goals as goal
 use Rattle.reply_text.proofs.looking.own_glances.Goals.{in-Ask, in-Look+in-Some+in-Some-glanced, in-None}
 

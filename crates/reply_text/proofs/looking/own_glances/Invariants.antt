@@ -1,4 +1,3 @@
-use Rattle.std.proofs.Common.{◌≡◌}
 use Rattle.reply_text.proofs.OwnGlances.{IsGoing}
 use Rattle.reply_text.proofs.looking.own_glances.Given as goal
 

@@ -1,5 +1,4 @@
-use Rattle.std.proofs.Common.{◌≡◌, ◌+◌, ◌≤◌, take, length, arith, length-take}
-use Rattle.reply_text.specs.Verdict.{calls}
+use Rattle.std.proofs.Common.{take, arith, length-take}
 use Rattle.reply_text.proofs.Exact.{one_call, few_calls}
 use Rattle.reply_text.proofs.NextLines.{calls_more}
 use Rattle.reply_text.proofs.serving.count_calls.Goals as goal

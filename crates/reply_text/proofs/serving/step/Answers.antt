@@ -1,13 +1,11 @@
-use Rattle.std.proofs.Common.{◌≡◌, ◌≤◌, ◌<◌, ℕ, List, ◌++◌, Some, None, sym, ◌∙◌, ap, arith, get_or, subst, refl, [], ◌∷◌}
+use Rattle.std.proofs.Common.{◌≡◌, ◌<◌, ℕ, List, ◌++◌, Some, None, sym, ◌∙◌, ap, arith, get_or, subst, refl, [], ◌∷◌}
 use Rattle.std.specs.Prelude.{◌≢◌}
-use Rattle.std.specs.String.{string_bytes}
 use Rattle.std.proofs.lemmas.Bool.Decides.{Decides-eqb}
 use Rattle.std.proofs.lemmas.Slice.Eq.{strip_prefix_is}
 use Rattle.send_core.specs.declared.call.Call.{Call}
-use Rattle.send_core.specs.declared.call.Entry.{Entry}
 use Rattle.send_core.specs.History.{entry}
 use Rattle.send_core.specs.Reply.{reply}
-use Rattle.call_trace.specs.Fields.{field, number_of}
+use Rattle.call_trace.specs.Fields.{number_of}
 use Rattle.reply_text.specs.Text.{line_of}
 use Rattle.reply_text.specs.Verdict.{IsNext}
 use Rattle.reply_text.proofs.NextLines.{no_number, no_actor, no_next, next_is, no_line, served_is, placed_more}

@@ -1,10 +1,10 @@
-use Rattle.std.proofs.Common.{◌≡◌, ◌+◌, ◌≤◌, ◌<◌, suc, ℕ, List, [], ◌∷◌, ◌++◌, Some, length, refl, sym, ◌∙◌, ap, subst, arith}
+use Rattle.std.proofs.Common.{◌≡◌, ℕ, List, [], ◌∷◌, ◌++◌, Some, sym, ◌∙◌, ap, subst, arith}
 use Rattle.std.proofs.lemmas.Bool.Decides.{Decides-eqb}
 use Rattle.std.proofs.lemmas.Slice.Eq.{strip_prefix_is}
 use Rattle.gcc_units.specs.Listed.{Listed}
 use Rattle.send_core.specs.declared.call.Entry.{Entry}
 use Rattle.send_core.specs.Reply.{target}
-use Rattle.reply_text.specs.Verdict.{calls, title, Begins, DiffersAt, line}
+use Rattle.reply_text.specs.Verdict.{title, line}
 use Rattle.reply_text.specs.Walking.{IsServed}
 use Rattle.reply_text.specs.Looking.{AreTargets}
 use Rattle.reply_text.proofs.Exact.{few_calls}

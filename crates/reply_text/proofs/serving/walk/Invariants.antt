@@ -1,4 +1,3 @@
-use Rattle.std.proofs.Common.{◌≡◌}
 use Rattle.reply_text.specs.Verdict.{Begins}
 use Rattle.reply_text.specs.Walking.{ArePlaced}
 use Rattle.reply_text.specs.Looking.{AreTargets}

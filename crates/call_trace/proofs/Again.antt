@@ -12,7 +12,7 @@ use Rattle.gcc_units.specs.declared.class.Class.{Class}
 use Rattle.gcc_units.specs.declared.class.Class.TheVariants.{Audio, Retransmission, Video, Fec}
 use Rattle.gcc_units.specs.declared.limits.TheConstants.{MOST_ACTORS}
 use Rattle.gcc_units.specs.Listed.{bare}
-use Rattle.send_core.specs.declared.call.Call.TheVariants.{Enqueue, Pace}
+use Rattle.send_core.specs.declared.call.Call.TheVariants.{Enqueue, Pace, Report, Configure}
 use Rattle.call_trace.specs.declared.fault.TraceFault.{TraceFault}
 use Rattle.call_trace.specs.declared.trace.Action.{Action}
 use Rattle.call_trace.specs.declared.trace.Action.TheVariants.{Ask, Look}
@@ -78,6 +78,8 @@ told_again : (actors : ℕ) (text : List ℕ) (a : ℕ) (action : Action) → a 
 unfolding action_at
 told_again actors text a (Ask (Enqueue at class wire)) low few h = rw h.3 (enqueue_again actors a at class h.0 wire.items low few h.2 h.1)
 told_again actors text a (Ask (Pace at)) low few h = rw h.1 (pace_again actors a at low few h.0)
+told_again actors text a (Ask (Report at bytes)) low few h = absurd h
+told_again actors text a (Ask (Configure at change)) low few h = absurd h
 told_again actors text a Look low few h = rw h (glance_again actors a low few)
 
 pub action_again : (actors : ℕ) (text : List ℕ) (line : Line) → actors ≤ 2 ^ 32 → IsLine actors text line → action_at actors text ≡ Ok (settled_line line)
@@ -87,6 +89,8 @@ action_again actors text line few h = told_again actors text line.actor line.act
 told_other : (text : List ℕ) (a : ℕ) (action : Action) → IsAction text a action → is_end text ≡ false
 told_other text a (Ask (Enqueue at class wire)) h = rw h.3 refl
 told_other text a (Ask (Pace at)) h = rw h.1 refl
+told_other text a (Ask (Report at bytes)) h = absurd h
+told_other text a (Ask (Configure at change)) h = absurd h
 told_other text a Look h = rw h refl
 
 pub action_other : (actors : ℕ) (text : List ℕ) (line : Line) → IsLine actors text line → is_end text ≡ false
@@ -116,6 +120,8 @@ feedless text a (Ask (Enqueue at class wire)) few h =
     let middle : Lacks 10 (decimal at ++ 32 ∷ (letter_of class ++ 32 ∷ h.0)) = Lacks-append 10 (decimal at) (32 ∷ (letter_of class ++ 32 ∷ h.0)) (Lacks-decimal 10 at (omega arith) h.2) (refl, back) in
     rw h.3 (refl, (refl, Lacks-append 10 (decimal a) (32 ∷ (decimal at ++ 32 ∷ (letter_of class ++ 32 ∷ h.0))) (Lacks-decimal 10 a (omega arith) few) (refl, middle)))
 feedless text a (Ask (Pace at)) few h = rw h.1 (refl, (refl, Lacks-append 10 (decimal a) (32 ∷ decimal at) (Lacks-decimal 10 a (omega arith) few) (refl, Lacks-decimal 10 at (omega arith) h.0)))
+feedless text a (Ask (Report at bytes)) few h = absurd h
+feedless text a (Ask (Configure at change)) few h = absurd h
 feedless text a Look few h = rw h (refl, (refl, Lacks-decimal 10 a (omega arith) few))
 
 feedless_header : (actors : ℕ) → actors < 2 ^ 64 → Lacks 10 (header actors)

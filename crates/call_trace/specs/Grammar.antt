@@ -6,7 +6,7 @@ use Rattle.hex.specs.Hex.{decode_of}
 use Rattle.gcc_units.specs.declared.class.Class.{Class}
 use Rattle.gcc_units.specs.declared.class.Class.TheVariants.{Audio, Retransmission, Video, Fec}
 use Rattle.gcc_units.specs.declared.limits.TheConstants.{MOST_ACTORS}
-use Rattle.send_core.specs.declared.call.Call.TheVariants.{Enqueue, Pace}
+use Rattle.send_core.specs.declared.call.Call.TheVariants.{Enqueue, Pace, Report, Configure}
 use Rattle.call_trace.specs.declared.trace.Action.{Action}
 use Rattle.call_trace.specs.declared.trace.Action.TheVariants.{Ask, Look}
 use Rattle.call_trace.specs.declared.trace.Line.{Line}
@@ -33,6 +33,8 @@ IsAction text actor (Ask (Enqueue at class wire)) =
     (hex : List ℕ) × IsHex hex wire.items × (at < 2 ^ 64)
     × (text ≡ spaced (codes "E" ∷ decimal actor ∷ decimal at ∷ letter_of class ∷ hex ∷ []))
 IsAction text actor (Ask (Pace at)) = (at < 2 ^ 64) × (text ≡ spaced (codes "P" ∷ decimal actor ∷ decimal at ∷ []))
+IsAction text actor (Ask (Report at bytes)) = ⊥
+IsAction text actor (Ask (Configure at change)) = ⊥
 IsAction text actor Look = text ≡ spaced (codes "G" ∷ decimal actor ∷ [])
 
 -- a line of action, without its line feed

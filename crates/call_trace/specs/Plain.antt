@@ -4,7 +4,7 @@ use Rattle.std.specs.List.{All}
 use Rattle.gcc_units.specs.Listed.{bare}
 use Rattle.gcc_units.specs.declared.limits.TheConstants.{MOST_ACTORS, MOST_LINES}
 use Rattle.send_core.specs.declared.call.Call.{Call}
-use Rattle.send_core.specs.declared.call.Call.TheVariants.{Enqueue, Pace}
+use Rattle.send_core.specs.declared.call.Call.TheVariants.{Enqueue, Pace, Report, Configure}
 use Rattle.call_trace.specs.declared.trace.Action.{Action}
 use Rattle.call_trace.specs.declared.trace.Action.TheVariants.{Ask, Look}
 use Rattle.call_trace.specs.declared.trace.Line.{Line}
@@ -22,6 +22,8 @@ plain trace = record { actors = trace.actors; lines = trace.lines.items }
 abbrev pub settled_call : Call → Call
 settled_call (Enqueue at class wire) = Enqueue at class (bare wire.items)
 settled_call (Pace at) = Pace at
+settled_call (Report at bytes) = Report at (bare bytes.items)
+settled_call (Configure at change) = Configure at change
 
 abbrev pub settled_action : Action → Action
 settled_action (Ask call) = Ask (settled_call call)
@@ -44,6 +46,8 @@ pub record IsSettled (trace : Trace) : Type 0 where
 abbrev pub HasBytes : Action → Type 0
 HasBytes (Ask (Enqueue at class wire)) = 0 < length wire.items
 HasBytes (Ask (Pace at)) = Unit {0}
+HasBytes (Ask (Report at bytes)) = Unit {0}
+HasBytes (Ask (Configure at change)) = Unit {0}
 HasBytes Look = Unit {0}
 
 -- the line is of one of so many actors, and its packet is not empty

@@ -15,11 +15,12 @@ pub use fault::{
     BEHIND_END, NO_ACTOR, NO_END, NO_HEADER, NO_HEX, NO_MOMENT, NO_VERB, ReadTrace, TOO_LONG,
     TOO_MANY_LINES, TraceFault,
 };
+pub use fields::{cut, number};
 pub use laws::{
     lines_are_cut_at_line_feeds, lines_in_order_are_legal, lines_in_order_merge,
     no_bytes_spell_two_traces,
 };
-pub use reading::read_trace;
+pub use reading::{next_line, read_trace};
 pub use trace::{Action, Line, LineList, Trace};
 
 #[cfg(test)]

@@ -17,7 +17,7 @@ use gcc_units::{MOST_ACTORS, MOST_CHECK_BYTES, MOST_LINES, Sequence};
 use std::alloc::Global;
 
 /// The next whole line without its line feed, and what stands behind it.
-fn next_line(bytes: &[u8]) -> Option<(&[u8], &[u8])>
+pub fn next_line(bytes: &[u8]) -> Option<(&[u8], &[u8])>
     ensures some { IfSome result (λ p. lines_of bytes.now ≡ record { whole = p.0.now ∷ (lines_of p.1.now).whole; rest = (lines_of p.1.now).rest }) }
     ensures shorter { IfSome result (λ p. length p.0.now + length p.1.now < length bytes.now) }
     ensures none { IfNone result (lines_of bytes.now ≡ record { whole = []; rest = bytes.now }) }

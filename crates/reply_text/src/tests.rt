@@ -3,8 +3,9 @@
 ghost use Rattle.std.specs.Prelude.{◌^◌, ◌<◌, length};
 
 use super::*;
-use gcc_units::{Bytes, Class};
-use send_core::{Call, Journal, START_RATE, Sender};
+use crate::lines::entry_line;
+use gcc_units::{Bytes, Class, Credit, CreditList, Judged, Rate, Share, ShareList, Signal};
+use send_core::{Call, Entry, Journal, Rates, Reply, START_RATE, Sender};
 use std::alloc::Global;
 use std::test::Fail;
 
@@ -124,6 +125,87 @@ fn refused_calls(rt: HostRuntime) -> Result<(), Fail> {
 end 3 0 300000
 "
             .as_slice()
+    );
+    Ok(())
+}
+
+fn rates(estimate: Rate, pacing: Rate) -> Rates {
+    Rates {
+        delay: estimate,
+        loss: estimate,
+        target: estimate,
+        pacing,
+    }
+}
+
+fn credits(alloc: Global, arrivals: &[i64]) -> Result<CreditList, Fail> {
+    let mut list = CreditList::new(alloc);
+    let mut number = 0;
+    for arrival in arrivals {
+        let credit = Credit {
+            number,
+            sent_at: 1000,
+            arrival: *arrival,
+            size: 20,
+            cluster: None,
+        };
+        list.push(credit).ok().ok_or("there is room")?;
+        number += 1;
+    }
+    Ok(list)
+}
+
+#[test]
+fn judged_report(rt: HostRuntime) -> Result<(), Fail> {
+    let alloc = rt.alloc();
+    let judged = Judged {
+        received: credits(alloc, &[260, 268, 268])?,
+        missing: 0,
+        unknown: 0,
+        repeated: 0,
+    };
+    let entry = Entry {
+        caller: 0,
+        call: Call::Report {
+            at: 50_000,
+            bytes: Bytes::new(alloc),
+        },
+        reply: Reply::Credited {
+            at: 50_000,
+            judged,
+            signal: Signal::Normal,
+            m: 0,
+            acked: None,
+            rates: rates(300_000, 750_000),
+            shares: ShareList::new(alloc),
+        },
+    };
+    assert_eq!(rt;
+        entry_line(alloc, &entry)?.as_str(),
+        "0 credited 50000 got 3 lost 0 unknown 0 repeated 0 signal normal m 0 acked - rates 300000 300000 300000 750000 shares - credits 0@260 1@268 2@268\n"
+    );
+    Ok(())
+}
+
+#[test]
+fn changed_settings(rt: HostRuntime) -> Result<(), Fail> {
+    let alloc = rt.alloc();
+    let mut shares = ShareList::new(alloc);
+    for (id, rate) in [(1, 200_001), (2, 100_000)] {
+        shares.push(Share { id, rate }).ok().ok_or("there is room")?;
+    }
+    let entry = Entry {
+        caller: 0,
+        call: Call::Pace { at: 0 },
+        reply: Reply::Configured {
+            at: 0,
+            rates: rates(300_001, 750_002),
+            shares,
+        },
+    };
+    assert_eq!(rt;
+        entry_line(alloc, &entry)?.as_str(),
+        "0 configured 0 rates 300001 300001 300001 750002 shares 1:200001,2:100000\n"
     );
     Ok(())
 }

@@ -15,15 +15,6 @@ use Rattle.send_core.specs.Wires.{wires}
 use Rattle.turn_lock.specs.Seats.{SeatIs, Adds}
 use Rattle.shared_sender.specs.Served.{Answered, answered, answers_of, entry_of, journal_of, HasWires, Refuses, Answers}
 
--- ---- the journal is that of the history
-
-journal_from : (before xs : List Entry) → journal_of (each_by answered before xs) ≡ xs
-journal_from before [] = refl
-journal_from before (x ∷ xs) = ap (λ ys. x ∷ ys) (journal_from (before ++ x ∷ []) xs)
-
-pub journal_of-answers : (journal : List Entry) → journal_of (answers_of journal) ≡ journal
-journal_of-answers journal = journal_from [] journal
-
 pub length-answers : (journal : List Entry) → length (answers_of journal) ≡ length journal
 length-answers journal = each_by-length answered [] journal
 

@@ -2,11 +2,13 @@
 //! of it.
 #![tactic(auto)]
 
+mod racing;
 mod reading;
 mod replay;
 mod status;
 mod top;
 mod words;
+mod workers;
 mod writing;
 
 pub use status::Status;

@@ -16,4 +16,6 @@ pub use top::{run, run_plain};
 pub use words::WordList;
 
 #[cfg(test)]
+mod race_tests;
+#[cfg(test)]
 mod tests;

@@ -13,7 +13,7 @@ ghost use Rattle.reply_text.specs.Text.{line_of, glance_lines, tail_line, text};
 use crate::lines::{entry_line, glance_line, sends_of};
 use crate::seen::{Seen, SeenList};
 use gcc_units::{Bytes, NoMemory, Rate};
-use send_core::{Journal, START_RATE};
+use send_core::Journal;
 use std::alloc::Global;
 use std::collections::BTreeMap;
 
@@ -102,7 +102,7 @@ pub fn write_history(
 {
     let mut text = String::from_str(alloc, "gcc-history 1\n")?;
     push_entries(alloc, &mut text, journal)?;
-    text.push_str(ending(alloc, journal, glances.as_slice(), START_RATE)?.as_str())?;
+    text.push_str(ending(alloc, journal, glances.as_slice(), journal.target())?.as_str())?;
     let bytes = bytes_of(text)?;
     Ok(bytes)
 }

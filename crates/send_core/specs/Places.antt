@@ -5,6 +5,7 @@ use Rattle.send_core.specs.declared.call.Entry.{Entry}
 use Rattle.send_core.specs.declared.journal.Journal.TheInside.{Inside}
 use Rattle.pacer.specs.declared.pacing.Tally.{Tally}
 use Rattle.send_core.specs.History.{AcceptedPacket, accepted_by}
+use Rattle.send_core.specs.Estimates.{target}
 use Rattle.send_core.specs.Levels.{tally_of}
 
 -- for each accepted packet the number of its entry
@@ -24,3 +25,4 @@ entries_of j = record { items = j.entries.items; spare = min j.entries.spare (mi
 pub record IsKept (j : Inside) : Type 0 where
   pub places : j.places.items ≡ places_from 0 j.entries.items
   pub tallies : j.tallies.items ≡ tallies_from [] j.entries.items
+  pub goal : j.target ≡ target j.entries.items

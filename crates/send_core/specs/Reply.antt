@@ -27,7 +27,8 @@ use Rattle.send_core.specs.declared.call.Entry.{Entry}
 use Rattle.send_core.specs.History.{at_of, later, now, accepted, sent, waiting, began, has_packets}
 use Rattle.send_core.specs.Settings.{Standing, fault_of, settings, settings_after, streams, started}
 use Rattle.send_core.specs.Reports.{events, cluster_deeds}
-use Rattle.send_core.specs.Estimates.{est, target, rates_of}
+use Rattle.send_core.specs.Estimates.{est, rates_of}
+pub use Rattle.send_core.specs.Estimates.{target}
 use Rattle.send_core.specs.Levels.{level_at, padding_at, floor}
 
 -- the ID of the element that holds the number

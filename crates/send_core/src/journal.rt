@@ -3,10 +3,11 @@
 ghost use Rattle.std.specs.Prelude.{◌≡◌, ◌==◌, ◌<◌, [], ◌∷◌, ◌++◌, ◌≤◌, ◌↔◌, Some, length, map, take, IfOk, OnOk, IsNone, slice_get};
 ghost use Rattle.std.specs.Option.{option_copied};
 ghost use Rattle.send_core.specs.History.{AcceptedPacket, accepted, accepted_by, wire_in};
+ghost use Rattle.send_core.specs.Estimates.{target as target_of};
 ghost use Rattle.send_core.specs.Levels.{tally_of};
 
 use crate::call::{Call, Entry, Reply};
-use gcc_units::{IdList, NoMemory, Sequence};
+use gcc_units::{IdList, NoMemory, Rate, Sequence};
 use pacer::Tally;
 use std::alloc::Global;
 use std::marker::Model;
@@ -19,6 +20,8 @@ pub struct Journal {
     places: IdList,
     /// What the time after the first n entries counts at, for each n.
     tallies: Sequence<Tally>,
+    /// The target rate after all entries, in bit/s.
+    target: Rate,
 }
 
 impl Model for Journal {
@@ -36,8 +39,9 @@ impl Model for Journal {
 
 impl Journal {
     /// No entry yet. It takes the memory of the first tally.
-    pub(crate) fn new(alloc: Global, first: Tally) -> Result<Self, NoMemory>
-        requires { first ≡ tally_of [] }
+    pub(crate) fn new(alloc: Global, first: Tally, target: Rate) -> Result<Self, NoMemory>
+        requires tally { first ≡ tally_of [] }
+        requires target { target ≡ target_of [] }
         ensures { IfOk result (λ j. j.items ≡ []) }
     {
         let mut tallies = Sequence::new(alloc);
@@ -47,6 +51,7 @@ impl Journal {
             entries: Sequence::new(alloc),
             places: IdList::new(alloc),
             tallies,
+            target,
         })
     }
 
@@ -80,6 +85,13 @@ impl Journal {
         self.tallies.get(n).copied()
     }
 
+    /// The target rate after all entries, in bit/s.
+    pub fn target(&self) -> Rate
+        ensures { result ≡ target_of self.now.items }
+    {
+        self.target
+    }
+
     /// Makes room for one more entry.
     pub(crate) fn reserve(&mut self) -> Result<(), NoMemory>
         ensures items { self.new.items ≡ self.old.items }
@@ -90,14 +102,16 @@ impl Journal {
         self.entries.reserve(1)
     }
 
-    /// Adds an entry, for which there is room, and the tally after it.
-    pub(crate) fn add(&mut self, entry: Entry, tally: Tally)
+    /// Adds an entry, for which there is room, and the tally and the target after it.
+    pub(crate) fn add(&mut self, entry: Entry, tally: Tally, target: Rate)
         requires room { 0 < self.old.spare }
         requires tally { tally ≡ tally_of (self.old.items ++ entry ∷ []) }
+        requires target { target ≡ target_of (self.old.items ++ entry ∷ []) }
         ensures { self.new.items ≡ self.old.items ++ entry ∷ [] }
     {
         note_place(&mut self.places, self.entries.len(), &entry);
         self.tallies.put(tally);
+        self.target = target;
         self.entries.put(entry);
     }
 

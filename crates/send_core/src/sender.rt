@@ -46,7 +46,8 @@ impl Sender {
         ensures { IfOk result (λ s. s ≡ []) }
     {
         let parts = Parts::new(alloc)?;
-        let journal = Journal::new(alloc, parts.pacer.tally())?;
+        let target = parts.estimator.current().target;
+        let journal = Journal::new(alloc, parts.pacer.tally(), target)?;
         Ok(Sender { journal, parts })
     }
 
@@ -85,6 +86,7 @@ impl Sender {
             wires: stamp_all(&self.journal, id, &reply, packets),
         };
         let tally = self.parts.pacer.tally();
+        let target = self.parts.estimator.current().target;
         self.journal.add(
             Entry {
                 caller,
@@ -92,6 +94,7 @@ impl Sender {
                 reply,
             },
             tally,
+            target,
         );
         Ok(answer)
     }

@@ -2,7 +2,7 @@ use Rattle.std.proofs.Common.{◌≡◌, ◌+◌, List, ◌∷◌, take, length,
 use Rattle.call_trace.specs.Merge.{asked}
 use Rattle.reply_text.specs.declared.looking.Standing.{Standing}
 use Rattle.reply_text.specs.declared.seen.Seen.{Seen}
-use Rattle.reply_text.proofs.OwnGlances.{IsGoing, IsAt, going_quiet, going_look, few_asked}
+use Rattle.reply_text.proofs.OwnGlances.{IsGoing, IsAt, going_quiet, going_look, seen_of, few_asked}
 use Rattle.reply_text.proofs.looking.own_glances.Goals as goal
 use Rattle.reply_text.proofs.looking.own_glances.Goals.{in-Ask, in-Look+in-Some+in-Some-glanced, in-None}
 
@@ -43,3 +43,16 @@ loop-line-preserved c =
           (going_quiet h lines a c.args.glances.now i line before after c.loop-line.rest.now at c.loop-line.invariant w.in-None.ensures.1
           (omega (arith, none, ap (λ (s : Standing). s.asked) w.standing-is)) (ap (λ (s : Standing). s.calls) w.standing-is) (ap (λ (s : Standing). s.made) w.standing-is))
     ]
+
+pub returns-in_default-glanced-clause-none : goal.returns-in_default-glanced-clause-none
+returns-in_default-glanced-clause-none c = λ own more split legal.
+    let h = c.args.served.now.sender in
+    let lines = c.args.lines.now in
+    let a = c.args.actor in
+    let i = c.loop-line.line-index in
+    let at : IsAt c.args.served.now.sender c.args.lines.now c.args.actor c.args.glances.now c.loop-line.line-index c.line-item.result = record { low = omega (arith, c.loop-line-test.true); is = c.line-item.is } in
+    let going : IsGoing c.args.served.now.sender c.args.lines.now c.args.actor c.args.glances.now c.loop-line.line-index c.loop-line.standing (c.in-Some.first.now ∷ c.in-Some.others.now)
+    = subst (λ (xs : List Seen). IsGoing c.args.served.now.sender c.args.lines.now c.args.actor c.args.glances.now c.loop-line.line-index c.loop-line.standing xs) c.in-Some.ensures.cases.0 c.loop-line.invariant in
+    c.in_default-glanced.ensures.none
+    (seen_of c.args.served.now.sender c.args.lines.now c.args.actor c.args.glances.now c.loop-line.line-index c.line-item.result c.loop-line.standing c.in-Some.first.now c.in-Some.others.now own more
+    at going c.in-Look.ensures.1 split legal)

@@ -16,7 +16,7 @@ pub loop-k-init : goal.loop-k-init
 loop-k-init c =
     let none : c.in_ok-sender.sender ≡ [] = c.in_ok-sender.ensures in
     let kept : c.keep.new.targets.items ≡ c.target.result ∷ [] = c.in_ok-keep.ensures ∙ ap (λ (l : Listed ℕ). l.items ++ c.target.result ∷ []) c.new-targets.ensures in
-    let is : c.target.result ≡ target [] = c.target.ensures ∙ ap target none in
+    let is : c.target.result ≡ target [] = c.target.ensures.target ∙ ap target none in
     record {
       begins = (none, strip_prefix_is Decides-eqb c.args.text.now title (Some c.in-Some.rest) c.in-Some.ensures.cases);
       placed = placed_first c.args.lines.now c.args.actors c.in_ok-sender.sender none;
@@ -39,5 +39,5 @@ loop-k-preserved c =
       begins = begins_more c.args.lines.now c.args.actors c.args.text.now c.loop-k.k c.loop-k.sender c.step.new.sender c.loop-k.rest.now c.in-Some-2.more.now c.loop-k.invariant.begins served;
       placed = rw c.in-Some-2.is at c.in_ok-more.ensures.placed;
       targets = targets_on c.loop-k.sender c.step.new.sender served.served c.loop-k.targets.items c.keep-in-loop-k.new.targets.items c.target-in-loop-k.result c.loop-k.invariant.targets served.grown
-          c.target-in-loop-k.ensures (omega (arith, c.target-in-loop-k.type_inv)) c.in_ok-keep-2.ensures;
+          c.target-in-loop-k.ensures.target (omega (arith, c.target-in-loop-k.type_inv)) c.in_ok-keep-2.ensures;
     }

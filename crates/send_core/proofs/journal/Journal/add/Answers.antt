@@ -2,6 +2,7 @@ use Rattle.std.proofs.Common.{◌≡◌, ◌++◌, [], ◌∷◌, sym, ◌∙◌
 use Rattle.gcc_units.specs.Listed.{Listed}
 use Rattle.pacer.specs.declared.pacing.Tally.{Tally}
 use Rattle.send_core.specs.declared.call.Entry.{Entry}
+use Rattle.send_core.specs.Estimates.{target}
 use Rattle.send_core.specs.Levels.{tally_of}
 use Rattle.send_core.specs.Places.{places_from, tallies_from}
 use Rattle.send_core.proofs.PlacesFound.{places-more}
@@ -20,4 +21,5 @@ invariant_of-self c =
           ∙ (ap (λ ts. ts ++ c.args.tally ∷ []) c.self.invariant.tallies
           ∙ (ap (λ t. tallies_from [] c.self.inside.entries.items ++ t ∷ []) (c.requires.tally ∙ ap (λ h. tally_of (h ++ c.args.entry ∷ [])) same)
           ∙ (sym (tallies-push [] c.self.inside.entries.items c.args.entry) ∙ ap (tallies_from []) (sym now))));
+      goal = c.requires.target ∙ (ap (λ h. target (h ++ c.args.entry ∷ [])) same ∙ ap target (sym now));
     }

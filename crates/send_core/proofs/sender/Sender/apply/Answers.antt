@@ -1,6 +1,8 @@
 use Rattle.std.proofs.Common.{List, [], ◌∷◌, ◌++◌, sym, ◌∙◌, ap, arith}
 use Rattle.send_core.specs.declared.call.Entry.{Entry}
 use Rattle.send_core.specs.History.{entry}
+use Rattle.estimator.specs.declared.estimate.Estimate.{Estimate}
+use Rattle.send_core.specs.Estimates.{est, target}
 use Rattle.send_core.specs.Levels.{tally_of}
 use Rattle.rtp_wire.specs.Wires.{bare_wires}
 use Rattle.send_core.specs.Stands.{StandsFor}
@@ -27,6 +29,14 @@ add-requires-clause-tally c =
     c.tally-tally.ensures
     ∙ (tally-is (c.self.inside.journal.items ++ entry c.args.caller c.args.call c.in-Ok-serve.reply ∷ []) c.serve.new.self stands
     ∙ ap (λ es. tally_of (es ++ entry c.args.caller c.args.call c.in-Ok-serve.reply ∷ [])) (sym c.reserve.ensures.items))
+
+pub add-requires-clause-target : goal.add-requires-clause-target
+add-requires-clause-target c =
+    let stands : StandsFor c.serve.new.self (c.self.inside.journal.items ++ entry c.args.caller c.args.call c.in-Ok-serve.reply ∷ []) =
+    stands-push c.self.inside.journal.items c.self.inside.parts c.serve.new.self c.args.caller c.args.call c.in-Ok-serve.reply c.self.invariant.1 c.in-Ok-serve.ensures.steps
+    (c.in-Ok-serve.ensures.answer c.self.inside.journal.items c.self.invariant.1) in
+    ap (λ (e : Estimate). e.target) (c.current-target.ensures.value (est (c.self.inside.journal.items ++ entry c.args.caller c.args.call c.in-Ok-serve.reply ∷ [])) stands.estimates)
+    ∙ ap (λ es. target (es ++ entry c.args.caller c.args.call c.in-Ok-serve.reply ∷ [])) (sym c.reserve.ensures.items)
 
 pub returns-clause-wires : goal.returns-clause-wires
 returns-clause-wires c =

@@ -16,9 +16,12 @@ abbrev pub is_look : Action → Bool
 is_look (Ask call) = false
 is_look Look = true
 
+abbrev pub looks : ℕ → Line → Bool
+looks actor line = (line.actor == actor) && is_look line.action
+
 -- how often an actor looks in these lines
 abbrev pub looks_of : ℕ → List Line → ℕ
-looks_of actor lines = count_by (λ (line : Line). (line.actor == actor) && is_look line.action) lines
+looks_of actor lines = count_by (looks actor) lines
 
 -- the line in which an actor looks
 abbrev pub look_of : ℕ → Line

@@ -1,7 +1,8 @@
 //! The lines of a printed history.
 
 ghost use Rattle.std.specs.Prelude.{◌≡◌, ◌++◌, codes, length, IfOk, OnOk};
-ghost use Rattle.send_core.specs.History.{sent_by};
+ghost use Rattle.send_core.specs.History.{entry, sent_by};
+ghost use Rattle.send_core.specs.declared.call.Call.{Call};
 ghost use Rattle.std.specs.String.{string_bytes};
 ghost use Rattle.std.specs.List.{flat_map};
 ghost use Rattle.reply_text.specs.Text.{kind_text, index_text, sent_text, signal_text, rate_text, judged_text, rates_text, estimate_text, share_text, shares_text, credit_text, credits_text, wire_number, report_number, cause_text, reply_text, line_of, glance_line};
@@ -279,13 +280,19 @@ fn reply_text(alloc: Global, reply: &Reply) -> Result<String, NoMemory>
     }
 }
 
+/// The line of a caller's reply, with its line feed.
+pub fn reply_line(alloc: Global, caller: u32, reply: &Reply) -> Result<String, NoMemory>
+    ensures { (call : Call) → IfOk result (λ s. string_bytes s ≡ line_of (entry caller call reply.now)) }
+{
+    let reply = reply_text(alloc, reply)?;
+    Ok(format!(in alloc; "{caller} {reply}\n")?)
+}
+
 /// An entry's line, with its line feed.
 pub fn entry_line(alloc: Global, entry: &Entry) -> Result<String, NoMemory>
     ensures { IfOk result (λ s. string_bytes s ≡ line_of entry.now) }
 {
-    let caller = entry.caller;
-    let reply = reply_text(alloc, &entry.reply)?;
-    Ok(format!(in alloc; "{caller} {reply}\n")?)
+    Ok(reply_line(alloc, entry.caller, &entry.reply)?)
 }
 
 /// How many packets were sent with a reply.

@@ -1,9 +1,11 @@
 //! Printed histories, written by hand.
 
-ghost use Rattle.std.specs.Prelude.{◌^◌, ◌<◌, length};
+ghost use Rattle.std.specs.Prelude.{◌≡◌, ◌+◌, ◌^◌, ◌<◌, length, OnOk};
+ghost use Rattle.std.specs.List.{All};
 
 use super::*;
 use crate::lines::entry_line;
+use call_trace::{Action, Line, LineList, Trace};
 use gcc_units::{Bytes, Class, Credit, CreditList, Judged, Rate, Share, ShareList, Signal};
 use send_core::{Call, Entry, Journal, Rates, Reply, START_RATE, Sender};
 use std::alloc::Global;
@@ -140,17 +142,15 @@ fn rates(estimate: Rate, pacing: Rate) -> Rates {
 
 fn credits(alloc: Global, arrivals: &[i64]) -> Result<CreditList, Fail> {
     let mut list = CreditList::new(alloc);
-    let mut number = 0;
     for arrival in arrivals {
         let credit = Credit {
-            number,
+            number: u64::from(list.len()),
             sent_at: 1000,
             arrival: *arrival,
             size: 20,
             cluster: None,
         };
         list.push(credit).ok().ok_or("there is room")?;
-        number += 1;
     }
     Ok(list)
 }
@@ -207,5 +207,227 @@ fn changed_settings(rt: HostRuntime) -> Result<(), Fail> {
         entry_line(alloc, &entry)?.as_str(),
         "0 configured 0 rates 300001 300001 300001 750002 shares 1:200001,2:100000\n"
     );
+    Ok(())
+}
+
+fn line(trace: &mut Trace, actor: u32, action: Action) -> Result<(), Fail>
+    requires low { actor < trace.old.actors }
+    requires each { All (λ line. line.actor < trace.old.actors) trace.old.lines.items }
+    ensures actors { trace.new.actors ≡ trace.old.actors }
+    ensures count { OnOk result (length trace.new.lines.items ≡ length trace.old.lines.items + 1) }
+    ensures each { OnOk result (All (λ line. line.actor < trace.new.actors) trace.new.lines.items) }
+{
+    trace
+        .lines
+        .push(Line { actor, action })
+        .ok()
+        .ok_or("there is room")?;
+    Ok(())
+}
+
+/// The verdict on a text for two actors: actor 0 looks, asks with a packet and looks, and actor 1
+/// asks for a pace and looks.
+fn verdict(alloc: Global, text: &[u8]) -> Result<Verdict, Fail>
+    requires { length text.now < 2 ^ 10 }
+{
+    let mut trace = Trace {
+        actors: 2,
+        lines: LineList::new(alloc),
+    };
+    line(&mut trace, 0, Action::Look)?;
+    line(
+        &mut trace,
+        0,
+        Action::Ask(packet(alloc, 0, Class::Audio, AUDIO)?),
+    )?;
+    line(&mut trace, 0, Action::Look)?;
+    line(&mut trace, 1, Action::Ask(Call::Pace { at: 0 }))?;
+    line(&mut trace, 1, Action::Look)?;
+    Ok(check_history(alloc, &trace, text)?)
+}
+
+#[test]
+fn legal(rt: HostRuntime) -> Result<(), Fail> {
+    let text = b"gcc-history 1
+0 accepted 0 0
+1 paced 0 1 0:a:0:20
+0 glance 0 0 300000
+0 glance 1 1 300000
+1 glance 0 2 300000
+end 2 1 300000
+";
+    assert_eq!(rt; verdict(rt.alloc(), text)?, Verdict::Legal);
+    Ok(())
+}
+
+#[test]
+fn legal_in_another_order(rt: HostRuntime) -> Result<(), Fail> {
+    let text = b"gcc-history 1
+1 paced 0 0
+0 accepted 0 0
+0 glance 0 1 300000
+0 glance 1 2 300000
+1 glance 0 1 300000
+end 2 0 300000
+";
+    assert_eq!(rt; verdict(rt.alloc(), text)?, Verdict::Legal);
+    Ok(())
+}
+
+#[test]
+fn glance_before_the_call(rt: HostRuntime) -> Result<(), Fail> {
+    let text = b"gcc-history 1
+0 accepted 0 0
+1 paced 0 1 0:a:0:20
+0 glance 0 0 300000
+0 glance 1 0 300000
+1 glance 0 2 300000
+end 2 1 300000
+";
+    assert_eq!(rt; verdict(rt.alloc(), text)?, Verdict::Differs { entry: 2 });
+    Ok(())
+}
+
+#[test]
+fn glance_with_another_target(rt: HostRuntime) -> Result<(), Fail> {
+    let text = b"gcc-history 1
+0 accepted 0 0
+1 paced 0 1 0:a:0:20
+0 glance 0 0 300000
+0 glance 1 1 300001
+1 glance 0 2 300000
+end 2 1 300000
+";
+    assert_eq!(rt; verdict(rt.alloc(), text)?, Verdict::Differs { entry: 2 });
+    Ok(())
+}
+
+#[test]
+fn glance_past_the_end(rt: HostRuntime) -> Result<(), Fail> {
+    let text = b"gcc-history 1
+0 accepted 0 0
+1 paced 0 1 0:a:0:20
+0 glance 0 0 300000
+0 glance 1 3 300000
+1 glance 0 2 300000
+end 2 1 300000
+";
+    assert_eq!(rt; verdict(rt.alloc(), text)?, Verdict::Differs { entry: 2 });
+    Ok(())
+}
+
+#[test]
+fn glances_of_the_second_actor_first(rt: HostRuntime) -> Result<(), Fail> {
+    let text = b"gcc-history 1
+0 accepted 0 0
+1 paced 0 1 0:a:0:20
+1 glance 0 2 300000
+0 glance 0 0 300000
+0 glance 1 1 300000
+end 2 1 300000
+";
+    assert_eq!(rt; verdict(rt.alloc(), text)?, Verdict::Differs { entry: 2 });
+    Ok(())
+}
+
+#[test]
+fn no_line_feed_at_the_end(rt: HostRuntime) -> Result<(), Fail> {
+    let text = b"gcc-history 1
+0 accepted 0 0
+1 paced 0 1 0:a:0:20
+0 glance 0 0 300000
+0 glance 1 1 300000
+1 glance 0 2 300000
+end 2 1 300000";
+    assert_eq!(rt; verdict(rt.alloc(), text)?, Verdict::Differs { entry: 2 });
+    Ok(())
+}
+
+#[test]
+fn empty_line_behind_the_tail(rt: HostRuntime) -> Result<(), Fail> {
+    let text = b"gcc-history 1
+0 accepted 0 0
+1 paced 0 1 0:a:0:20
+0 glance 0 0 300000
+0 glance 1 1 300000
+1 glance 0 2 300000
+end 2 1 300000
+
+";
+    assert_eq!(rt; verdict(rt.alloc(), text)?, Verdict::Differs { entry: 2 });
+    Ok(())
+}
+
+#[test]
+fn no_glances(rt: HostRuntime) -> Result<(), Fail> {
+    let text = b"gcc-history 1
+0 accepted 0 0
+1 paced 0 1 0:a:0:20
+end 2 1 300000
+";
+    assert_eq!(rt; verdict(rt.alloc(), text)?, Verdict::Differs { entry: 2 });
+    Ok(())
+}
+
+#[test]
+fn last_call_without_its_line_feed(rt: HostRuntime) -> Result<(), Fail> {
+    let text = b"gcc-history 1
+0 accepted 0 0
+1 paced 0 1 0:a:0:20";
+    assert_eq!(rt; verdict(rt.alloc(), text)?, Verdict::Differs { entry: 1 });
+    Ok(())
+}
+
+#[test]
+fn call_made_twice(rt: HostRuntime) -> Result<(), Fail> {
+    let text = b"gcc-history 1
+0 accepted 0 0
+0 accepted 0 0
+end 2 0 300000
+";
+    assert_eq!(rt; verdict(rt.alloc(), text)?, Verdict::Differs { entry: 1 });
+    Ok(())
+}
+
+#[test]
+fn leading_zero(rt: HostRuntime) -> Result<(), Fail> {
+    let text = b"gcc-history 1
+00 accepted 0 0
+1 paced 0 1 0:a:0:20
+end 2 1 300000
+";
+    assert_eq!(rt; verdict(rt.alloc(), text)?, Verdict::Differs { entry: 0 });
+    Ok(())
+}
+
+#[test]
+fn no_such_actor(rt: HostRuntime) -> Result<(), Fail> {
+    let text = b"gcc-history 1
+2 accepted 0 0
+1 paced 0 1 0:a:0:20
+end 2 1 300000
+";
+    assert_eq!(rt; verdict(rt.alloc(), text)?, Verdict::Differs { entry: 0 });
+    Ok(())
+}
+
+#[test]
+fn one_call_alone(rt: HostRuntime) -> Result<(), Fail> {
+    let text = b"gcc-history 1
+0 accepted 0 0
+";
+    assert_eq!(rt; verdict(rt.alloc(), text)?, Verdict::Differs { entry: 1 });
+    Ok(())
+}
+
+#[test]
+fn other_first_lines(rt: HostRuntime) -> Result<(), Fail> {
+    for text in [
+        b"".as_slice(),
+        b"gcc-history 1".as_slice(),
+        b"gcc-history 2\n".as_slice(),
+    ] {
+        assert_eq!(rt; verdict(rt.alloc(), text)?, Verdict::Differs { entry: 0 });
+    }
     Ok(())
 }

@@ -50,8 +50,8 @@ unreachable-requires g c =
     (λ k past. c.in-Ok-close.ensures.others k (subst (λ m. m ≤ k) (sym c.in-Ok.ensures.count) past)) c.requires.each in
     never_full lines n workers c.in-Ok-close.sender closed c.requires.few_lines (c.in_ok-seats.ensures.full c.in-Full.is)
 
-pub returns-in-No-clause-merges : goal.returns-in-No-clause-merges
-returns-in-No-clause-merges g c =
+pub returns-in-No : goal.returns-in-No
+returns-in-No g c =
     let n : ℕ = c.args.trace.now.actors in
     let lines : List Line = c.args.trace.now.lines.items in
     let workers : List Worker = c.worked-workers.result.items in
@@ -61,17 +61,9 @@ returns-in-No-clause-merges g c =
     (c.worked-workers.ensures.keys ∙ made) (subst (λ ls. AreWorked ls workers) c.as_slice.ensures.items c.worked-workers.ensures.worked).each
     c.in_ok-seats.ensures.seats c.in-Ok-close.ensures.seen c.in-Ok-close.ensures.mine
     (λ k past. c.in-Ok-close.ensures.others k (subst (λ m. m ≤ k) (sym c.in-Ok.ensures.count) past)) c.requires.each in
-    merged lines n workers c.in-Ok-close.sender closed (c.in_ok-seats.ensures.done c.in-No.is)
-
-pub returns-in-No-clause-glances : goal.returns-in-No-clause-glances
-returns-in-No-clause-glances g c =
-    let n : ℕ = c.args.trace.now.actors in
-    let lines : List Line = c.args.trace.now.lines.items in
-    let workers : List Worker = c.worked-workers.result.items in
-    let made = keys_made c.in-Ok.shared.of n c.in_ok-workers.workers.items (c.in_ok-workers.ensures.seats ∙ c.in-Ok.ensures.seats) in
-    let closed : IsClosed lines n workers c.in-Ok-close.sender =
-    closing c.in-Ok.shared.of lines n workers c.in_ok-seats.field-0.seats.items c.in-Ok-close.sender
-    (c.worked-workers.ensures.keys ∙ made) (subst (λ ls. AreWorked ls workers) c.as_slice.ensures.items c.worked-workers.ensures.worked).each
-    c.in_ok-seats.ensures.seats c.in-Ok-close.ensures.seen c.in-Ok-close.ensures.mine
-    (λ k past. c.in-Ok-close.ensures.others k (subst (λ m. m ≤ k) (sym c.in-Ok.ensures.count) past)) c.requires.each in
-    all_glances lines n workers c.in-Ok-close.sender c.in_ok-seats.field-0.glances.items closed (c.in_ok-seats.ensures.done c.in-No.is) c.in_ok-seats.ensures.glances
+    let done = c.in_ok-seats.ensures.done c.in-No.is in
+    record {
+      legal = c.in-Ok-close.ensures.legal;
+      merges = merged lines n workers c.in-Ok-close.sender closed done;
+      glances = all_glances lines n workers c.in-Ok-close.sender c.in_ok-seats.field-0.glances.items closed done c.in_ok-seats.ensures.glances;
+    }

@@ -2,20 +2,39 @@
 use Rattle.std.proofs.Common.{◌≡◌, ℕ, Bool, true, false, cond, List, [], ◌∷◌, ◌++◌, refl, sym, ap, ◌∙◌, append_assoc}
 use Rattle.std.specs.Prelude.{◌≢◌}
 use Rattle.std.specs.List.{flat_map, All, AllByRecursion}
-use Rattle.std.proofs.lemmas.Bool.{eqb-false, ne_eqb}
+use Rattle.std.proofs.lemmas.Bool.{eqb-true, eqb-false, ne_eqb}
 use Rattle.std.proofs.lemmas.List.Elements.{All-from_recursion, recursion_from_All}
 use Rattle.call_trace.specs.Fields.{is_feed, Cut, begun, lines_of, fed, IsCut}
 use Rattle.call_trace.proofs.Lines.{Lacks, line_first, no_line}
-use Rattle.call_trace.proofs.Whole.{lines_join}
+
+-- ---- the bytes joined again
+
+joined_begun : (b : ℕ) (lines : List (List ℕ)) (rest : List ℕ) → b ∷ (flat_map fed lines ++ rest) ≡ flat_map fed (begun b lines rest).whole ++ (begun b lines rest).rest
+joined_begun b [] rest = refl
+joined_begun b (line ∷ lines) rest = refl
+
+joined_cut : (b : ℕ) (feed : Bool) (cut : Cut) → is_feed b ≡ feed
+    → b ∷ (flat_map fed cut.whole ++ cut.rest)
+    ≡ flat_map fed (cond feed (record { whole = [] ∷ cut.whole; rest = cut.rest }) (begun b cut.whole cut.rest)).whole ++ (cond feed (record { whole = [] ∷ cut.whole; rest = cut.rest }) (begun b cut.whole cut.rest)).rest
+joined_cut b true cut is = ap (λ (x : ℕ). x ∷ (flat_map fed cut.whole ++ cut.rest)) (eqb-true b 10 is)
+joined_cut b false cut is = joined_begun b cut.whole cut.rest
+
+-- the lines with their line feeds, and the rest, are the bytes
+pub lines_join : (bytes : List ℕ) → bytes ≡ flat_map fed (lines_of bytes).whole ++ (lines_of bytes).rest
+unfolding lines_of
+lines_join [] = refl
+lines_join (b ∷ bytes) = ap (λ (t : List ℕ). b ∷ t) (lines_join bytes) ∙ joined_cut b (is_feed b) (lines_of bytes) refl
+
+-- ---- no line feed in a line
 
 abbrev AreFeedless : List (List ℕ) → Type 0
 AreFeedless lines = AllByRecursion (λ line. All (λ b. b ≢ 10) line) lines
 
-All-from_Lacks : (xs : List ℕ) → Lacks 10 xs → AllByRecursion (λ b. b ≢ 10) xs
+pub All-from_Lacks : (xs : List ℕ) → Lacks 10 xs → AllByRecursion (λ b. b ≢ 10) xs
 All-from_Lacks [] lacks = tt
 All-from_Lacks (x ∷ xs) lacks = (eqb-false x 10 lacks.0, All-from_Lacks xs lacks.1)
 
-Lacks-from_All : (xs : List ℕ) → AllByRecursion (λ b. b ≢ 10) xs → Lacks 10 xs
+pub Lacks-from_All : (xs : List ℕ) → AllByRecursion (λ b. b ≢ 10) xs → Lacks 10 xs
 Lacks-from_All [] all = tt
 Lacks-from_All (x ∷ xs) all = (ne_eqb x 10 all.0, Lacks-from_All xs all.1)
 

@@ -1,6 +1,5 @@
 -- What is read is spelled so, and each of its lists is settled.
-use Rattle.std.proofs.Common.{◌≡◌, ℕ, ◌*◌, ◌^◌, ◌<◌, ◌≤◌, Bool, true, false, cond, eqb, ltb, List, [], ◌∷◌, ◌++◌, length, Option, Some, None, Result, Ok, Err, refl, sym, ap, subst, ◌∙◌, arith, inl, inr, length-append}
-use Rattle.std.specs.Prelude.{◌⊎◌}
+use Rattle.std.proofs.Common.{◌≡◌, ℕ, ◌*◌, ◌^◌, ◌<◌, ◌≤◌, true, eqb, ltb, List, [], ◌∷◌, ◌++◌, length, Result, Ok, Err, refl, sym, ap, subst, ◌∙◌, arith, inl, inr, length-append}
 use Rattle.std.specs.Fmt.{decimal}
 use Rattle.std.proofs.lemmas.Bool.{eqb-true, ltb-true}
 use Rattle.std.proofs.lemmas.Fmt.{decimal_nonempty}
@@ -10,40 +9,22 @@ use Rattle.hex.proofs.HexLemmas.{decode_of-ok}
 use Rattle.gcc_units.specs.declared.class.Class.{Class}
 use Rattle.gcc_units.specs.declared.class.Class.TheVariants.{Audio, Retransmission, Video, Fec}
 use Rattle.gcc_units.specs.Listed.{Listed, bare}
-use Rattle.send_core.specs.declared.call.Call.TheVariants.{Enqueue, Pace}
+use Rattle.send_core.specs.declared.call.Call.TheVariants.{Enqueue, Pace, Report, Configure}
 use Rattle.call_trace.specs.declared.fault.TheConstants.{NO_ACTOR, NO_VERB, NO_MOMENT}
 use Rattle.call_trace.specs.declared.trace.Action.TheVariants.{Ask, Look}
 use Rattle.call_trace.specs.declared.trace.Line.{Line}
-use Rattle.call_trace.specs.Plain.{settled_line, HasBytes}
+use Rattle.send_core.specs.declared.call.Change.{Change}
+use Rattle.call_trace.specs.Plain.{settled_change, settled_line, HasBytes}
 use Rattle.call_trace.specs.Fields.{field, behind, number_of}
-use Rattle.call_trace.specs.Reading.{◌>>=◌, or_reason, below, actor_at, moment_at, class_of, class_at, decoded, hex_at, enqueue_at, pace_at, glance_at, verb_at, fields_at, action_at}
+use Rattle.call_trace.specs.Steps.{◌>>=◌, or_reason}
+use Rattle.call_trace.specs.Reading.{below, actor_at, moment_at, class_of, class_at, decoded, hex_at, enqueue_at, pace_at, report_at, configure_at, glance_at, verb_at, fields_at, action_at}
 use Rattle.call_trace.specs.Grammar.{letter_of, IsHex, IsLine}
+use Rattle.call_trace.specs.ChangeReading.{json_at}
+use Rattle.call_trace.proofs.StepsTaken.{bind_ok, done, ok_is, or_reason_ok, guard_ok, pick}
+use Rattle.call_trace.proofs.Json.{json_some}
+use Rattle.call_trace.proofs.ChangeExact.{json_found}
 use Rattle.call_trace.proofs.Numbers.{number_spells}
 use Rattle.call_trace.proofs.Parts.{parts}
-
--- ---- steps that did not fail
-
-pub bind_ok : {A B E : Type 0} (r : Result A E) (f : A → Result B E) (y : B) → (r >>= f) ≡ Ok y → (x : A) × (r ≡ Ok x) × (f x ≡ Ok y)
-bind_ok (Ok x) f y e = (x, refl, e)
-bind_ok (Err d) f y e = absurd cc
-
-abbrev pub done : {A E : Type 0} → A → Result A E
-done x = Ok x
-
-pub ok_is : {A E : Type 0} (x y : A) → done {A = A} {E = E} x ≡ done y → x ≡ y
-ok_is x y e = cc
-
-pub or_reason_ok : {A : Type 0} (r : ℕ) (o : Option A) (x : A) → or_reason r o ≡ Ok x → o ≡ Some x
-or_reason_ok r (Some y) x e = ap (λ z. Some z) (ok_is y x e)
-or_reason_ok r None x e = absurd cc
-
-pub guard_ok : {A E : Type 0} (b : Bool) (x y : A) (d : E) → cond b (Ok x) (Err d) ≡ Ok y → (b ≡ true) × (x ≡ y)
-guard_ok true x y d e = (refl, ok_is x y e)
-guard_ok false x y d e = absurd cc
-
-pub pick : {A E : Type 0} (b : Bool) (r s : Result A E) (y : A) → cond b r s ≡ Ok y → ((b ≡ true) × (r ≡ Ok y)) ⊎ (s ≡ Ok y)
-pick true r s y e = inl (refl, e)
-pick false r s y e = inr e
 
 -- ---- fields
 
@@ -161,6 +142,62 @@ pace_found actors rest line e =
     } in
     (some0, moved actors (80 ∷ 32 ∷ rest) made line (ok_is made line m.2) read)
 
+settles_report : (actor at : ℕ) (bytes : Listed ℕ) → bytes ≡ bare bytes.items
+    → (let line : Line = record { actor = actor; action = Ask (Report at bytes) } in line ≡ settled_line line)
+settles_report actor at bytes is = ap (λ (l : Listed ℕ). let line : Line = record { actor = actor; action = Ask (Report at l) } in line) {x = bytes} {y = bare bytes.items} is
+
+report_found : (actors : ℕ) (rest : List ℕ) (line : Line) → report_at actors rest ≡ Ok line → IsReadBehind actors (82 ∷ []) rest line
+unfolding report_at
+report_found actors rest line e =
+    let r1 = behind rest in
+    let hex = behind r1 in
+    let a = bind_ok (actor_at actors (field rest)) (λ actor. moment_at (field r1) >>= λ at. hex_at hex >>= λ bytes. Ok (record { actor = actor; action = Ask (Report at bytes) })) line e in
+    let m = bind_ok (moment_at (field r1)) (λ at. hex_at hex >>= λ bytes. Ok (record { actor = a.0; action = Ask (Report at bytes) })) line a.2 in
+    let w = bind_ok (hex_at hex) (λ bytes. Ok (record { actor = a.0; action = Ask (Report m.0 bytes) })) line m.2 in
+    let actor = actor_found actors (field rest) a.0 a.1 in
+    let moment = moment_found (field r1) m.0 m.1 in
+    let bytes = hex_found hex w.0 w.1 in
+    let made : Line = record { actor = a.0; action = Ask (Report m.0 w.0) } in
+    let p1 : r1 ≡ decimal m.0 ++ 32 ∷ hex = parts r1 (decimal m.0) hex moment.0 refl bytes.2 in
+    let some1 : 0 < length r1 = omega (arith, ap length p1, length-append (decimal m.0) (32 ∷ hex)) in
+    let p0 : rest ≡ decimal a.0 ++ 32 ∷ r1 = parts rest (decimal a.0) r1 actor.0 refl some1 in
+    let some0 : 0 < length rest = omega (arith, ap length p0, length-append (decimal a.0) (32 ∷ r1)) in
+    let text : rest ≡ decimal a.0 ++ 32 ∷ (decimal m.0 ++ 32 ∷ hex) = p0 ∙ ap (λ (t : List ℕ). decimal a.0 ++ 32 ∷ t) p1 in
+    let read : IsRead actors (82 ∷ 32 ∷ rest) made = record {
+      spelled = (actor.1, (hex, bytes.0, moment.1, ap (λ (t : List ℕ). 82 ∷ 32 ∷ t) text));
+      settled = settles_report a.0 m.0 w.0 bytes.1;
+      bytes = bytes.0.0;
+    } in
+    (some0, moved actors (82 ∷ 32 ∷ rest) made line (ok_is made line w.2) read)
+
+settles_configure : (actor at : ℕ) (change : Change) → change ≡ settled_change change
+    → (let line : Line = record { actor = actor; action = Ask (Configure at change) } in line ≡ settled_line line)
+settles_configure actor at change is = ap (λ (c : Change). let line : Line = record { actor = actor; action = Ask (Configure at c) } in line) {x = change} {y = settled_change change} is
+
+configure_found : (actors : ℕ) (rest : List ℕ) (line : Line) → configure_at actors rest ≡ Ok line → IsReadBehind actors (67 ∷ []) rest line
+unfolding configure_at
+configure_found actors rest line e =
+    let r1 = behind rest in
+    let json = behind r1 in
+    let a = bind_ok (actor_at actors (field rest)) (λ actor. moment_at (field r1) >>= λ at. json_at json >>= λ change. Ok (record { actor = actor; action = Ask (Configure at change) })) line e in
+    let m = bind_ok (moment_at (field r1)) (λ at. json_at json >>= λ change. Ok (record { actor = a.0; action = Ask (Configure at change) })) line a.2 in
+    let w = bind_ok (json_at json) (λ change. Ok (record { actor = a.0; action = Ask (Configure m.0 change) })) line m.2 in
+    let actor = actor_found actors (field rest) a.0 a.1 in
+    let moment = moment_found (field r1) m.0 m.1 in
+    let change = json_found json w.0 w.1 in
+    let made : Line = record { actor = a.0; action = Ask (Configure m.0 w.0) } in
+    let p1 : r1 ≡ decimal m.0 ++ 32 ∷ json = parts r1 (decimal m.0) json moment.0 refl (json_some json w.0 change.0) in
+    let some1 : 0 < length r1 = omega (arith, ap length p1, length-append (decimal m.0) (32 ∷ json)) in
+    let p0 : rest ≡ decimal a.0 ++ 32 ∷ r1 = parts rest (decimal a.0) r1 actor.0 refl some1 in
+    let some0 : 0 < length rest = omega (arith, ap length p0, length-append (decimal a.0) (32 ∷ r1)) in
+    let text : rest ≡ decimal a.0 ++ 32 ∷ (decimal m.0 ++ 32 ∷ json) = p0 ∙ ap (λ (t : List ℕ). decimal a.0 ++ 32 ∷ t) p1 in
+    let read : IsRead actors (67 ∷ 32 ∷ rest) made = record {
+      spelled = (actor.1, (json, change.0, moment.1, ap (λ (t : List ℕ). 67 ∷ 32 ∷ t) text));
+      settled = settles_configure a.0 m.0 w.0 change.1;
+      bytes = tt;
+    } in
+    (some0, moved actors (67 ∷ 32 ∷ rest) made line (ok_is made line w.2) read)
+
 glance_found : (actors : ℕ) (rest : List ℕ) (line : Line) → actors ≤ 2 ^ 32 → glance_at actors rest ≡ Ok line → IsReadBehind actors (71 ∷ []) rest line
 unfolding glance_at
 glance_found actors rest line few e =
@@ -186,9 +223,17 @@ verb_found actors letter rest line few e =
           elim (pick (eqb letter 80) _ _ line others) [
             | inl pa ↦ at_letter actors letter 80 rest line pa.0 (pace_found actors rest line pa.1)
             | inr more ↦
-                elim (pick (eqb letter 71) _ _ line more) [
-                  | inl gl ↦ at_letter actors letter 71 rest line gl.0 (glance_found actors rest line few gl.1)
-                  | inr last ↦ absurd cc
+                elim (pick (eqb letter 82) _ _ line more) [
+                  | inl re ↦ at_letter actors letter 82 rest line re.0 (report_found actors rest line re.1)
+                  | inr changes ↦
+                      elim (pick (eqb letter 67) _ _ line changes) [
+                        | inl ch ↦ at_letter actors letter 67 rest line ch.0 (configure_found actors rest line ch.1)
+                        | inr glances ↦
+                            elim (pick (eqb letter 71) _ _ line glances) [
+                              | inl gl ↦ at_letter actors letter 71 rest line gl.0 (glance_found actors rest line few gl.1)
+                              | inr last ↦ absurd cc
+                            ]
+                      ]
                 ]
           ]
     ]

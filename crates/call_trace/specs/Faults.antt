@@ -5,12 +5,14 @@ use Rattle.std.specs.Fmt.{decimal}
 use Rattle.std.specs.Cmp.Lexicographic.{pointwise}
 use Rattle.gcc_units.specs.declared.class.Class.{Class}
 use Rattle.gcc_units.specs.declared.limits.TheConstants.{MOST_ACTORS}
+use Rattle.send_core.specs.declared.call.Change.{Change}
 use Rattle.call_trace.specs.declared.fault.TheConstants.{NO_HEADER, NO_ACTOR, NO_VERB, NO_MOMENT, NO_HEX, TOO_MANY_LINES, NO_END, BEHIND_END}
 use Rattle.call_trace.specs.declared.fault.TraceFault.{TraceFault}
 use Rattle.call_trace.specs.declared.fault.ReadTrace.{ReadTrace}
 use Rattle.call_trace.specs.declared.fault.ReadTrace.TheVariants as read_trace
 use Rattle.call_trace.specs.declared.trace.Line.{Line}
 use Rattle.call_trace.specs.Fields.{field, behind, lines_of}
+use Rattle.call_trace.specs.Settings.{SpellsChange, IsNoChange}
 use Rattle.call_trace.specs.Reading.{fault}
 use Rattle.call_trace.specs.Grammar.{letter_of, IsHex, IsLine, header}
 
@@ -19,13 +21,16 @@ pub data Kind : Type 0 where
   actor : Kind
   moment : Kind
   class : Kind
-  packet : Kind
+  hex : Kind
+  json : Kind
 
 -- the fields behind a verb
 abbrev pub kinds_of : List ℕ → Option (List Kind)
 kinds_of verb =
-    if pointwise nat_eq verb (codes "E") then Some (actor ∷ moment ∷ class ∷ packet ∷ [])
+    if pointwise nat_eq verb (codes "E") then Some (actor ∷ moment ∷ class ∷ hex ∷ [])
     else if pointwise nat_eq verb (codes "P") then Some (actor ∷ moment ∷ [])
+    else if pointwise nat_eq verb (codes "R") then Some (actor ∷ moment ∷ hex ∷ [])
+    else if pointwise nat_eq verb (codes "C") then Some (actor ∷ moment ∷ json ∷ [])
     else if pointwise nat_eq verb (codes "G") then Some (actor ∷ [])
     else None
 
@@ -33,21 +38,23 @@ abbrev pub IsGood : ℕ → Kind → List ℕ → Type 0
 IsGood actors actor text = (n : ℕ) × (n < actors) × (text ≡ decimal n)
 IsGood actors moment text = (n : ℕ) × (n < 2 ^ 64) × (text ≡ decimal n)
 IsGood actors class text = (c : Class) × (text ≡ letter_of c)
-IsGood actors packet text = (bytes : List ℕ) × IsHex text bytes
+IsGood actors hex text = (octets : List ℕ) × IsHex text octets
+IsGood actors json text = (change : Change) × SpellsChange text change
 
 -- why a field that is no good one is bad
-abbrev pub reason_of : Kind → ℕ
-reason_of actor = NO_ACTOR
-reason_of moment = NO_MOMENT
-reason_of class = NO_VERB
-reason_of packet = NO_HEX
+abbrev pub IsReason : Kind → List ℕ → ℕ → Type 0
+IsReason actor text reason = reason ≡ NO_ACTOR
+IsReason moment text reason = reason ≡ NO_MOMENT
+IsReason class text reason = reason ≡ NO_VERB
+IsReason hex text reason = reason ≡ NO_HEX
+IsReason json text reason = IsNoChange text reason
 
 -- the first bad one of a text's fields has this reason; the last field is all that is left, and one that is not there is empty
 abbrev pub IsFirstBad : ℕ → List Kind → List ℕ → ℕ → Type 0
 IsFirstBad actors [] text reason = ⊥
-IsFirstBad actors (kind ∷ []) text reason = (¬ IsGood actors kind text) × (reason ≡ reason_of kind)
+IsFirstBad actors (kind ∷ []) text reason = (¬ IsGood actors kind text) × IsReason kind text reason
 IsFirstBad actors (kind ∷ next ∷ kinds) text reason =
-    ((¬ IsGood actors kind (field text)) × (reason ≡ reason_of kind))
+    ((¬ IsGood actors kind (field text)) × IsReason kind (field text) reason)
     ⊎ (IsGood actors kind (field text) × IsFirstBad actors (next ∷ kinds) (behind text) reason)
 
 -- a line whose verb is none, or whose fields are these
@@ -91,6 +98,10 @@ pub data IsFirstFault (most : ℕ) (bytes : List ℕ) (f : TraceFault) : Type 0 
   -- bytes stand behind `end`
   behind_end : (actors : ℕ) (before after : List (List ℕ)) → Begins most bytes actors before (codes "end" ∷ after) → 0 < length after + length (lines_of bytes).rest
       → f ≡ fault (length before + 3) BEHIND_END → IsFirstFault most bytes f
+
+-- the fault of bytes that begin with no trace of at most so many lines of action
+abbrev pub IsFrontFault : ℕ → List ℕ → TraceFault → Type 0
+IsFrontFault most bytes f = IsFirstFault most bytes f × (f.reason ≢ BEHIND_END)
 
 -- a fact of the fault; where memory ran out, none is told
 abbrev pub IfFault : ReadTrace → (TraceFault → Type 0) → Type 0

@@ -35,6 +35,10 @@ lines_of (b ∷ bytes) =
     if is_feed b then record { whole = [] ∷ (lines_of bytes).whole; rest = (lines_of bytes).rest }
     else begun b (lines_of bytes).whole (lines_of bytes).rest
 
+-- no line feed stands in a line
+abbrev pub IsLineText : List ℕ → Type 0
+IsLineText line = All (λ b. b ≢ 10) line
+
 -- a line with its line feed
 abbrev pub fed : List ℕ → List ℕ
 fed line = line ++ 10 ∷ []
@@ -42,8 +46,8 @@ fed line = line ++ 10 ∷ []
 -- the bytes are these lines with their line feeds, and then the rest; no other line feed is there
 pub record IsCut (bytes : List ℕ) (cut : Cut) : Type 0 where
   pub joined : bytes ≡ flat_map fed cut.whole ++ cut.rest
-  pub whole : All (λ line. All (λ b. b ≢ 10) line) cut.whole
-  pub rest : All (λ b. b ≢ 10) cut.rest
+  pub whole : All IsLineText cut.whole
+  pub rest : IsLineText cut.rest
 
 abbrev pub is_digit : ℕ → Bool
 is_digit d = nat_le 48 d && nat_le d 57

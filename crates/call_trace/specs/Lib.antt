@@ -1,7 +1,11 @@
 pub mod Plain
 pub mod Fields
+pub mod Steps
+pub mod Settings
+pub mod ChangeReading
 pub mod Reading
 pub mod Grammar
+pub mod Written
 pub mod Merge
 pub mod Ordered
 pub mod Faults

@@ -1,10 +1,12 @@
 //! Lines of action.
 
 ghost use Rattle.std.specs.Prelude.{◌≡◌, ◌≤◌, length};
-ghost use Rattle.call_trace.specs.Reading.{Gives, action_at, enqueue_at, pace_at, glance_at};
+ghost use Rattle.call_trace.specs.Steps.{Gives};
+ghost use Rattle.call_trace.specs.Reading.{action_at, enqueue_at, pace_at, report_at, configure_at, glance_at};
 
+use crate::change::change;
 use crate::fault::{Bad, NO_VERB};
-use crate::fields::{actor, class, cut, moment, packet};
+use crate::fields::{actor, class, cut, hex_bytes, moment};
 use crate::trace::{Action, Line};
 use gcc_units::MOST_CHECK_BYTES;
 use send_core::Call;
@@ -22,7 +24,7 @@ fn enqueue(alloc: Global, actors: u32, rest: &[u8]) -> Result<Line, Bad>
     let at = moment(second)?;
     let (third, rest) = cut(rest);
     let class = class(third)?;
-    let wire = packet(alloc, rest)?;
+    let wire = hex_bytes(alloc, rest)?;
     let action = Action::Ask(Call::Enqueue { at, class, wire });
     Ok(Line { actor, action })
 }
@@ -36,6 +38,35 @@ fn pace(actors: u32, rest: &[u8]) -> Result<Line, Bad>
     let actor = actor(actors, first)?;
     let at = moment(rest)?;
     let action = Action::Ask(Call::Pace { at });
+    Ok(Line { actor, action })
+}
+
+/// `ACTOR AT HEX`
+#[tactic(auto, unfolding(crate::specs::Reading::report_at))]
+fn report(alloc: Global, actors: u32, rest: &[u8]) -> Result<Line, Bad>
+    requires { length rest.now ≤ MOST_CHECK_BYTES }
+    ensures { Gives result (report_at actors rest.now) }
+{
+    let (first, rest) = cut(rest);
+    let actor = actor(actors, first)?;
+    let (second, rest) = cut(rest);
+    let at = moment(second)?;
+    let bytes = hex_bytes(alloc, rest)?;
+    let action = Action::Ask(Call::Report { at, bytes });
+    Ok(Line { actor, action })
+}
+
+/// `ACTOR AT JSON`
+#[tactic(auto, unfolding(crate::specs::Reading::configure_at))]
+fn configure(alloc: Global, actors: u32, rest: &[u8]) -> Result<Line, Bad>
+    ensures { Gives result (configure_at actors rest.now) }
+{
+    let (first, rest) = cut(rest);
+    let actor = actor(actors, first)?;
+    let (second, rest) = cut(rest);
+    let at = moment(second)?;
+    let change = change(alloc, rest)?;
+    let action = Action::Ask(Call::Configure { at, change });
     Ok(Line { actor, action })
 }
 
@@ -61,6 +92,8 @@ pub fn action(alloc: Global, actors: u32, line: &[u8]) -> Result<Line, Bad>
     match verb {
         [b'E'] => enqueue(alloc, actors, rest),
         [b'P'] => pace(actors, rest),
+        [b'R'] => report(alloc, actors, rest),
+        [b'C'] => configure(alloc, actors, rest),
         [b'G'] => glance(actors, rest),
         _ => Err(Bad::Reason(NO_VERB)),
     }

@@ -15,6 +15,17 @@ pub const NO_MOMENT: u32 = 4;
 /// The hex text is none.
 pub const NO_HEX: u32 = 5;
 
+/// The JSON text is no JSON object.
+pub const NO_OBJECT: u32 = 6;
+
+/// The object has a key that a change may not have, or an object in its list `streams` has not
+/// exactly the keys of a stream.
+pub const WRONG_KEY: u32 = 7;
+
+/// No key is wrong, and a value is not of its kind: a whole number from 0 below 2^64, or 2^32 for
+/// ids and weights, a truth value, or a list of streams or ids.
+pub const WRONG_VALUE: u32 = 8;
+
 /// As many lines of action as a trace may have stand before the line, and it is not `end`.
 pub const TOO_MANY_LINES: u32 = 9;
 

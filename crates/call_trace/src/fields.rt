@@ -3,7 +3,8 @@
 ghost use Rattle.std.specs.Prelude.{◌≡◌, ◌<◌, ◌≤◌, length};
 ghost use Rattle.std.specs.List.{position_or_len};
 ghost use Rattle.call_trace.specs.Fields.{is_space, is_byte, field, behind, number_of};
-ghost use Rattle.call_trace.specs.Reading.{Gives, actor_at, moment_at, class_at, hex_at};
+ghost use Rattle.call_trace.specs.Steps.{Gives};
+ghost use Rattle.call_trace.specs.Reading.{actor_at, moment_at, class_at, hex_at};
 
 use crate::fault::{Bad, NO_ACTOR, NO_HEX, NO_MOMENT, NO_VERB};
 use gcc_units::{Bytes, Class, MOST_CHECK_BYTES, Sequence};
@@ -90,7 +91,7 @@ pub fn class(text: &[u8]) -> Result<Class, Bad>
 }
 
 /// The bytes of one or more pairs of hex digits, in either case.
-pub fn packet(alloc: Global, text: &[u8]) -> Result<Bytes, Bad>
+pub fn hex_bytes(alloc: Global, text: &[u8]) -> Result<Bytes, Bad>
     requires { length text.now ≤ MOST_CHECK_BYTES }
     ensures { Gives result (hex_at text.now) }
 {

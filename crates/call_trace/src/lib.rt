@@ -5,22 +5,27 @@
 #![tactic(auto)]
 
 mod action;
+mod change;
+mod change_value;
 mod fault;
 mod fields;
 mod laws;
 mod reading;
 mod trace;
+mod writing;
 
 pub use fault::{
-    BEHIND_END, NO_ACTOR, NO_END, NO_HEADER, NO_HEX, NO_MOMENT, NO_VERB, ReadTrace, TOO_LONG,
-    TOO_MANY_LINES, TraceFault,
+    BEHIND_END, NO_ACTOR, NO_END, NO_HEADER, NO_HEX, NO_MOMENT, NO_OBJECT, NO_VERB, ReadTrace,
+    TOO_LONG, TOO_MANY_LINES, TraceFault, WRONG_KEY, WRONG_VALUE,
 };
+pub use fields::{cut, number};
 pub use laws::{
-    lines_are_cut_at_line_feeds, lines_in_order_are_legal, lines_in_order_merge,
-    no_bytes_spell_two_traces,
+    a_text_spells_one_change_or_none, lines_are_cut_at_line_feeds, lines_in_order_are_legal,
+    lines_in_order_merge, no_bytes_spell_two_traces,
 };
-pub use reading::read_trace;
+pub use reading::{next_line, read_front, read_trace};
 pub use trace::{Action, Line, LineList, Trace};
+pub use writing::write_trace;
 
 #[cfg(test)]
 mod tests;

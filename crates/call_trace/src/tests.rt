@@ -24,7 +24,7 @@ fn fault_of(rt: &(impl Abort + AllocGlobal), bytes: &[u8]) -> (u32, u32) {
 
 #[test]
 fn faults(rt: HostRuntime) {
-    let cases: [(&[u8], (u32, u32)); 46] = [
+    let cases: [(&[u8], (u32, u32)); 44] = [
         // The header, and what is missing.
         (b"", (1, NO_END)),
         (b"gcc-trace 1 1", (1, NO_END)),
@@ -45,8 +45,6 @@ fn faults(rt: HostRuntime) {
         (b"gcc-trace 1 2\nP 1 0\nend\n", (0, 0)),
         (b"gcc-trace 1 2\nP 2 0\nend\n", (2, NO_ACTOR)),
         (b"gcc-trace 1 2\nX 0 0\nend\n", (2, NO_VERB)),
-        (b"gcc-trace 1 2\nR 0 0 00\nend\n", (2, NO_VERB)),
-        (b"gcc-trace 1 2\nC 0 0 {}\nend\n", (2, NO_VERB)),
         (b"gcc-trace 1 2\nP 0 01\nend\n", (2, NO_MOMENT)),
         (b"gcc-trace 1 2\nE 0 0 q 00\nend\n", (2, NO_VERB)),
         (b"gcc-trace 1 2\nE 0 0 a 0\nend\n", (2, NO_HEX)),
@@ -85,6 +83,72 @@ fn faults(rt: HostRuntime) {
     }
 }
 
+/// The reason of a trace with this one line of action, 0 where there is none.
+fn reason_of(rt: &(impl Abort + AllocGlobal), line: &[u8]) -> Result<u32, Fail> {
+    let mut bytes = Vec::new(rt.alloc());
+    bytes.extend_from_slice(b"gcc-trace 1 1\n")?;
+    bytes.extend_from_slice(line)?;
+    bytes.extend_from_slice(b"\nend\n")?;
+    Ok(fault_of(rt, bytes.as_slice()).1)
+}
+
+#[test]
+fn reports(rt: HostRuntime) -> Result<(), Fail> {
+    assert_eq!(rt; reason_of(&rt, b"R 0 0 8fCD")?, 0);
+    assert_eq!(rt; reason_of(&rt, b"R 0 0 8fc")?, NO_HEX);
+    assert_eq!(rt; reason_of(&rt, b"R 0 0")?, NO_HEX);
+    Ok(())
+}
+
+#[test]
+fn no_objects(rt: HostRuntime) -> Result<(), Fail> {
+    assert_eq!(rt; reason_of(&rt, b"C 0 0")?, NO_OBJECT);
+    assert_eq!(rt; reason_of(&rt, b"C 0 0 []")?, NO_OBJECT);
+    assert_eq!(rt; reason_of(&rt, b"C 0 0 {\"min\":1000,}")?, NO_OBJECT);
+    assert_eq!(rt; reason_of(&rt, b"C 0 0 {\"min\":1e400}")?, NO_OBJECT);
+    Ok(())
+}
+
+#[test]
+fn wrong_keys(rt: HostRuntime) -> Result<(), Fail> {
+    assert_eq!(rt;
+        reason_of(&rt, b"C 0 0 {\"min\":\"a\",\"x\":1}")?,
+        WRONG_KEY
+    );
+    assert_eq!(rt; reason_of(&rt, b"C 0 0 {\"\":0}")?, WRONG_KEY);
+    assert_eq!(rt; reason_of(&rt, b"C 0 0 {\"streams\":[5,{}]}")?, WRONG_KEY);
+    Ok(())
+}
+
+#[test]
+fn wrong_values(rt: HostRuntime) -> Result<(), Fail> {
+    assert_eq!(rt; reason_of(&rt, b"C 0 0 {\"min\":1000.0}")?, WRONG_VALUE);
+    assert_eq!(rt; reason_of(&rt, b"C 0 0 {\"min\":-0}")?, WRONG_VALUE);
+    assert_eq!(rt; reason_of(&rt, b"C 0 0 {\"min\":null}")?, WRONG_VALUE);
+    assert_eq!(rt; reason_of(&rt, b"C 0 0 {\"streams\":[5]}")?, WRONG_VALUE);
+    assert_eq!(rt;
+        reason_of(&rt, b"C 0 0 {\"removed\":[4294967296]}")?,
+        WRONG_VALUE
+    );
+    Ok(())
+}
+
+#[test]
+fn changes(rt: HostRuntime) -> Result<(), Fail> {
+    assert_eq!(rt; reason_of(&rt, b"C 0 0 {}\r")?, 0);
+    assert_eq!(rt; reason_of(&rt, b"C 0 0  {} ")?, 0);
+    assert_eq!(rt;
+        reason_of(&rt, b"C 0 0 {\"min\":\"a\",\"min\":18446744073709551615}")?,
+        0
+    );
+    assert_eq!(rt; reason_of(&rt, b"C 0 0 {\"\\u006din\":1000}")?, 0);
+    assert_eq!(rt;
+        reason_of(&rt, b"C 0 0 {\"streams\":[],\"removed\":[4294967295]}")?,
+        0
+    );
+    Ok(())
+}
+
 #[test]
 fn every_proper_prefix_has_no_end(rt: HostRuntime) {
     for len in 0..SMALLEST_RUN.len() {
@@ -98,6 +162,17 @@ fn every_proper_prefix_has_no_end(rt: HostRuntime) {
     }
 }
 
+#[test]
+fn a_front_is_counted(rt: HostRuntime) -> Result<(), Fail> {
+    let bytes = b"gcc-trace 1 1\nG 0\nend\ngcc-history 1\n";
+    let (trace, count) = read_front(rt.alloc(), bytes)
+        .ok()
+        .ok_or("a trace is there")?;
+    assert_eq!(rt; trace.lines.len(), 1);
+    assert_eq!(rt; count, 22);
+    Ok(())
+}
+
 /// The actor, the moment, the class and the packet of a line; a pace has neither of the last two.
 fn parts(line: &Line) -> (u32, u64, Option<Class>, &[u8]) {
     match &line.action {
@@ -105,6 +180,8 @@ fn parts(line: &Line) -> (u32, u64, Option<Class>, &[u8]) {
             (line.actor, *at, Some(*class), wire.as_slice())
         }
         Action::Ask(Call::Pace { at }) => (line.actor, *at, None, b"pace".as_slice()),
+        Action::Ask(Call::Report { at, bytes }) => (line.actor, *at, None, bytes.as_slice()),
+        Action::Ask(Call::Configure { at, .. }) => (line.actor, *at, None, b"change".as_slice()),
         Action::Look => (line.actor, 0, None, b"look".as_slice()),
     }
 }
@@ -130,6 +207,35 @@ fn smallest_run(rt: HostRuntime) -> Result<(), Fail> {
         assert_eq!(rt; class, want.2);
         assert_eq!(rt; bytes, want.3);
     }
+    Ok(())
+}
+
+/// What the trace of these bytes is written as.
+fn written(rt: &(impl Abort + AllocGlobal), bytes: &[u8]) -> Result<Vec<u8>, Fail> {
+    assert!(rt; bytes.len() as u64 <= MOST_CHECK_BYTES);
+    let trace = read_trace(rt.alloc(), bytes).ok().ok_or("it is a trace")?;
+    let text = write_trace(rt.alloc(), &trace)
+        .ok()
+        .ok_or("memory is there")?;
+    Ok(text.into_vec())
+}
+
+#[test]
+fn hex_is_written_in_small_letters(rt: HostRuntime) -> Result<(), Fail> {
+    let text = written(&rt, b"gcc-trace 1 2\nE 1 5 f aF\nG 0\nend\n")?;
+    let want = b"gcc-trace 1 2\nE 1 5 f af\nG 0\nend\n".as_slice();
+    assert_eq!(rt; text.as_slice(), want);
+    Ok(())
+}
+
+#[test]
+fn keys_are_written_in_rising_order(rt: HostRuntime) -> Result<(), Fail> {
+    let text = written(
+        &rt,
+        b"gcc-trace 1 1\nC 0 5 { \"window\": 9, \"removed\": [], \"min\": 7 }\nend\n",
+    )?;
+    let want = b"gcc-trace 1 1\nC 0 5 {\"min\":7,\"window\":9}\nend\n".as_slice();
+    assert_eq!(rt; text.as_slice(), want);
     Ok(())
 }
 

@@ -1,2 +1,9 @@
 pub mod Pace
+pub mod Course
 pub mod Records
+pub mod Ruled
+pub mod Afters
+pub mod Sends
+pub mod Force
+pub mod State
+pub mod Inside

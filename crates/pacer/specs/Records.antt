@@ -1,14 +1,12 @@
 -- What follows of the words of `Pace`: what records leave unsent, and what one pace sends.
-use Rattle.std.proofs.Common.{◌≡◌, ℕ, suc, zero, ◌+◌, ◌-◌, ◌<◌, ◌≤◌, ◌==◌, ◌||◌, ◌&&◌, Bool, true, false, not, min, Option, None, Some, IfSome, List, [], ◌∷◌, ◌++◌, length, All, Contains, filter, refl, sym, ◌∙◌, ap, subst, arith, get_or}
-use Rattle.std.specs.List.{list_any}
+use Rattle.std.proofs.Common.{◌≡◌, ℕ, ◌≤◌, ◌==◌, ◌||◌, ◌&&◌, Bool, true, false, not, Option, None, Some, List, [], ◌∷◌, ◌++◌, All, filter, refl, ◌∙◌, ap, arith}
 use Rattle.std.proofs.lemmas.Bool.Decides.{nat_tests}
-use Rattle.std.proofs.lemmas.List.Elements.{All-nil, All-cons, All-head, All-tail, All-append, All-contains, All-filter, filter-append}
+use Rattle.std.proofs.lemmas.List.Elements.{All-head, All-tail, filter-append}
 use Rattle.std.proofs.lemmas.List.Folds.{list_any-append}
 use Rattle.pace_queues.specs.declared.ticket.Ticket.{Ticket}
-use Rattle.pace_queues.specs.Waiting.{next, without, rest, IsLeast, HasIndexBelow}
-use Rattle.pace_queues.specs.Laws.{next-is_least, next-is_one}
+use Rattle.pace_queues.specs.Waiting.{without}
 use Rattle.pacer.specs.declared.sent.Sent.{Sent}
-use Rattle.pacer.specs.Pace.{is_index, names, IsBelow, NamesBelow, unsent, record_of, Standing, record_if, rule, after, then_on, paced, paced-zero, paced-suc}
+use Rattle.pacer.specs.Pace.{is_index, names, IsBelow, NamesBelow, unsent}
 
 -- ---- filters
 
@@ -49,10 +47,18 @@ pub unsent-none : (ts : List Ticket) → unsent [] ts ≡ ts
 unsent-none [] = refl
 unsent-none (t ∷ ts) = rw (unsent-none ts) refl
 
-pub unsent-one : (number : ℕ) (t : Ticket) (ts : List Ticket) → unsent (record_of number t ∷ []) ts ≡ without t.index ts
-unsent-one number t ts =
-    filter-same (λ (u : Ticket). not (names u.index (record_of number t ∷ []))) (λ (u : Ticket). not (u.index == t.index))
-    (λ u. ap not (or-false (u.index == t.index))) ts
+-- a record of a packet leaves all but that packet unsent
+pub unsent-one : (r : Sent) (k : ℕ) → r.index ≡ Some k → (ts : List Ticket) → unsent (r ∷ []) ts ≡ without k ts
+unsent-one r k is ts =
+    filter-same (λ (u : Ticket). not (names u.index (r ∷ []))) (λ (u : Ticket). not (u.index == k))
+    (λ u. ap not (or-false (is_index u.index r.index) ∙ ap (is_index u.index) is)) ts
+
+-- a record of no packet leaves all unsent
+pub unsent-no_index : (r : Sent) → r.index ≡ None → (ts : List Ticket) → unsent (r ∷ []) ts ≡ ts
+unsent-no_index r is [] = refl
+unsent-no_index r is (t ∷ ts) =
+    let named : names t.index (r ∷ []) ≡ false = or-false (is_index t.index r.index) ∙ ap (is_index t.index) is in
+    rw (named, unsent-no_index r is ts) refl
 
 -- records of earlier packets do not name a later one
 pub names-none : (count k : ℕ) (records : List Sent) → All (NamesBelow count) records → count ≤ k → names k records ≡ false
@@ -73,61 +79,3 @@ unsent-later count records all (t ∷ ts) late =
       names-none count t.index records all (All-head (λ (u : Ticket). count ≤ u.index) t ts late),
       unsent-later count records all ts (All-tail (λ (u : Ticket). count ≤ u.index) t ts late),
     ) refl
-
--- ---- one pace
-
--- a filter keeps no more than there is, and less where one fails
-filter-fewer : {X : Type 0} (p : X → Bool) (xs : List X) → length (filter p xs) ≤ length xs
-filter-fewer p [] = omega arith
-filter-fewer {X} p (x ∷ xs) = step (p x) refl (filter-fewer p xs)
-  where
-    step : (b : Bool) → p x ≡ b → length (filter p xs) ≤ length xs → length (filter p (x ∷ xs)) ≤ length (x ∷ xs)
-    step true e h = rw e (omega arith)
-    step false e h = rw e (omega arith)
-
-filter-less : {X : Type 0} (p : X → Bool) (x : X) (xs : List X) → Contains xs x → p x ≡ false → length (filter p xs) < length xs
-filter-less p x [] (k, l, is) fails = absurd (omega arith)
-filter-less p x (y ∷ ys) (zero, l, is) fails =
-    let h : length (filter p ys) ≤ length ys = filter-fewer p ys in
-    let same : y ≡ x = is in
-    rw (same, fails) (omega arith)
-filter-less {X} p x (y ∷ ys) (suc k, l, is) fails =
-    let deeper : Contains ys x = (k, omega arith, is) in
-    step (p y) refl (filter-less p x ys deeper fails)
-  where
-    step : (b : Bool) → p y ≡ b → length (filter p ys) < length ys → length (filter p (y ∷ ys)) < length (y ∷ ys)
-    step true e h = rw e (omega arith)
-    step false e h = rw e (omega arith)
-
--- a packet that waits is less after it was sent
-unsent-fewer : (number : ℕ) (t : Ticket) (ts : List Ticket) → Contains ts t → length (unsent (record_of number t ∷ []) ts) < length ts
-unsent-fewer number t ts has =
-    let named : not (t.index == t.index || false) ≡ false = grind (arith, nat_tests) in
-    filter-less (λ (u : Ticket). not (names u.index (record_of number t ∷ []))) t ts has named
-
-pub paced-few : (most : ℕ) (s : Standing) → length (paced most s) ≤ min most (length s.waiting)
-paced-few zero s = rw (paced-zero s) (omega arith)
-paced-few (suc most) s = rw (paced-suc most s) (by_next (λ left. paced-few most left) (next s.waiting) refl (next-is_least s.waiting))
-  where
-    by_next : ((left : Standing) → length (paced most left) ≤ min most (length left.waiting)) → (o : Option Ticket) → next s.waiting ≡ o → IfSome o (λ t. IsLeast t s.waiting)
-        → length (then_on (record_if s.number o) (λ r. paced most (after s r))) ≤ min (suc most) (length s.waiting)
-    by_next few None e h = omega arith
-    by_next few (Some t) e h =
-        let left : Standing = after s (record_of s.number t) in
-        let more : length (paced most left) ≤ min most (length left.waiting) = few left in
-        let less : length left.waiting < length s.waiting = unsent-fewer s.number t s.waiting h.waits in
-        omega arith
-
--- each is of a packet that waits
-pub paced-known : (most count : ℕ) (s : Standing) → All (HasIndexBelow count) s.waiting → All (NamesBelow count) (paced most s)
-paced-known zero count s all = rw (paced-zero s) (All-nil (NamesBelow count))
-paced-known (suc most) count s all =
-    rw (paced-suc most s) (by_next (λ left below. paced-known most count left below) (next s.waiting) (next-is_one (HasIndexBelow count) s.waiting all))
-  where
-    by_next : ((left : Standing) → All (HasIndexBelow count) left.waiting → All (NamesBelow count) (paced most left)) → (o : Option Ticket) → IfSome o (HasIndexBelow count)
-        → All (NamesBelow count) (then_on (record_if s.number o) (λ r. paced most (after s r)))
-    by_next known None h = All-nil (NamesBelow count)
-    by_next known (Some t) h =
-        All-cons (NamesBelow count) (record_of s.number t) (paced most (after s (record_of s.number t))) h
-        (known (after s (record_of s.number t))
-        (All-filter (λ (u : Ticket). not (names u.index (record_of s.number t ∷ []))) (HasIndexBelow count) s.waiting all))

@@ -29,11 +29,14 @@ is_not_below c received = nat_le c.average (received + spread c)
 abbrev pub smoothed : ℕ → ℕ → ℕ
 smoothed old new = (95 * old + 5 * new) / 100
 
+abbrev pub squared_distance : ℕ → ℕ → ℕ
+squared_distance one other = abs_diff one other * abs_diff one other
+
 -- with one more received rate; the variance is about the new average
 abbrev pub averaged : Capacity → ℕ → Capacity
 averaged c received =
     let average = smoothed c.average received in
-    record { average = average; variance = smoothed c.variance (abs_diff received average * abs_diff received average) }
+    record { average = average; variance = smoothed c.variance (squared_distance received average) }
 
 -- the first received rate, or the first one after a change
 abbrev pub begun : ℕ → Capacity

@@ -2,7 +2,7 @@
 
 ghost use Rattle.std.specs.Prelude.{◌≡◌, ◌≤◌, ◌*◌, max};
 ghost use Rattle.std.specs.Option.{ForSome};
-ghost use Rattle.rate_control.specs.Capacity.{kilobits, spread, is_near, is_above, is_not_below, smoothed, averaged, begun, after_decrease, after_increase, is_approached, IsInRange};
+ghost use Rattle.rate_control.specs.Capacity.{kilobits, spread, is_near, is_above, is_not_below, smoothed, squared_distance, averaged, begun, after_decrease, after_increase, is_approached, IsInRange};
 
 use crate::state::{Capacity, GREATEST_KILOBITS};
 use fixed_math::isqrt;
@@ -109,11 +109,20 @@ fn averaged(capacity: Capacity, received: u64) -> Capacity
     ensures kept { IsInRange result }
 {
     let average = smoothed(capacity.average, received);
-    let distance = received.abs_diff(average);
     Capacity {
         average,
-        variance: smoothed(capacity.variance, distance * distance),
+        variance: smoothed(capacity.variance, squared_distance(received, average)),
     }
+}
+
+fn squared_distance(one: u64, other: u64) -> u64
+    requires one { one ≤ GREATEST_KILOBITS }
+    requires other { other ≤ GREATEST_KILOBITS }
+    ensures value { result ≡ squared_distance one other }
+    ensures bound { result ≤ GREATEST_KILOBITS * GREATEST_KILOBITS }
+{
+    let distance = one.abs_diff(other);
+    distance * distance
 }
 
 fn smoothed(old: u64, new: u64) -> u64

@@ -54,8 +54,9 @@ impl Control {
         }
     }
 
-    /// One step, for a feedback report that gave a sample: the signal that it gave, the received rate where
-    /// there is one, and the round-trip time. It answers the estimate.
+    /// One step, for a feedback report that gave a sample (draft-ietf-rmcat-gcc-02, section 5.5): the signal
+    /// that it gave, the received rate in bit/s where there is one, and the round-trip time and the moment in
+    /// microseconds. It answers the estimate in bit/s, which is in the bounds.
     pub fn step(
         &mut self,
         signal: Signal,
@@ -76,7 +77,7 @@ impl Control {
         self.state.rate
     }
 
-    /// The estimate.
+    /// The estimate in bit/s.
     pub fn rate(&self) -> Rate
         ensures value { result ≡ self.now.rate }
         ensures within { IsRate result }
@@ -87,8 +88,7 @@ impl Control {
     /// Puts the estimate to the start where one is given, and then into the bounds. All else stays. It answers
     /// the estimate.
     pub fn set(&mut self, start: Option<Rate>, bounds: Bounds) -> Rate
-        requires start { ForSome start IsRate }
-        requires bounds { IsBounds bounds }
+        requires { IsBounds bounds }
         ensures state { self.new ≡ set_to self.old start bounds }
         ensures rate { result ≡ self.new.rate }
         ensures within { IsInBounds bounds result }

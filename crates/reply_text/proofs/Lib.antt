@@ -1,1 +1,10 @@
 pub mod Nexts
+pub mod Steps
+pub mod Lefts
+pub mod Exact
+pub mod NextLines
+pub mod OwnGlances
+pub mod AllGlances
+pub mod Printed
+pub mod Endings
+pub mod Verdicts

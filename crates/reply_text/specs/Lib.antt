@@ -1,1 +1,5 @@
 pub mod Text
+pub mod Legal
+pub mod Verdict
+pub mod Looking
+pub mod Walking

@@ -7,12 +7,13 @@ ghost use Rattle.std.specs.String.{string_bytes};
 ghost use Rattle.std.specs.List.{flat_map};
 ghost use Rattle.gcc_units.specs.Listed.{bare};
 ghost use Rattle.send_core.specs.History.{sent};
-ghost use Rattle.reply_text.specs.Text.{line_of, glance_lines, text};
+ghost use Rattle.send_core.specs.Reply.{target};
+ghost use Rattle.reply_text.specs.Text.{line_of, glance_lines, tail_line, text};
 
 use crate::lines::{entry_line, glance_line, sends_of};
 use crate::seen::{Seen, SeenList};
-use gcc_units::{Bytes, NoMemory};
-use send_core::{Journal, START_RATE};
+use gcc_units::{Bytes, NoMemory, Rate};
+use send_core::Journal;
 use std::alloc::Global;
 use std::collections::BTreeMap;
 
@@ -69,6 +70,26 @@ fn push_glances(alloc: Global, text: &mut String, glances: &[Seen]) -> Result<()
     Ok(())
 }
 
+/// The lines of all glances, and the tail with this target.
+pub fn ending(
+    alloc: Global,
+    journal: &Journal,
+    glances: &[Seen],
+    rate: Rate,
+) -> Result<String, NoMemory>
+    requires few { length glances.now < 2 ^ 32 }
+    requires rate { rate ≡ target journal.now.items }
+    ensures { IfOk result (λ s. string_bytes s ≡ glance_lines [] glances.now ++ tail_line journal.now.items) }
+{
+    let mut text = String::new(alloc);
+    push_glances(alloc, &mut text, glances)?;
+    let entries = journal.len();
+    let sent = count_sends(journal);
+    let tail = format!(in alloc; "end {entries} {sent} {rate}\n")?;
+    text.push_str(tail.as_str())?;
+    Ok(text)
+}
+
 /// The printed history of a journal and of glances: a title, a line for each entry and for each
 /// glance, and the tail with the counts of entries and of sent packets and with the target, each
 /// ended by a line feed. A glance's line has the count of the actor's glances before it.
@@ -81,11 +102,7 @@ pub fn write_history(
 {
     let mut text = String::from_str(alloc, "gcc-history 1\n")?;
     push_entries(alloc, &mut text, journal)?;
-    push_glances(alloc, &mut text, glances.as_slice())?;
-    let entries = journal.len();
-    let sent = count_sends(journal);
-    let tail = format!(in alloc; "end {entries} {sent} {START_RATE}\n")?;
-    text.push_str(tail.as_str())?;
+    text.push_str(ending(alloc, journal, glances.as_slice(), journal.target())?.as_str())?;
     let bytes = bytes_of(text)?;
     Ok(bytes)
 }

@@ -1,7 +1,6 @@
 -- One line more, one glance more, one actor more.
-use Rattle.std.proofs.Common.{◌≡◌, ℕ, suc, zero, ◌+◌, ◌<◌, ◌≤◌, ◌==◌, Bool, true, false, List, [], ◌∷◌, ◌++◌, length, refl, sym, ◌∙◌, ap, subst, arith, append_assoc, append-nil, length-append, Option, None, Some, IfSome, Ok, Err, cond, nat_lt, le-ltb}
+use Rattle.std.proofs.Common.{◌≡◌, ℕ, suc, zero, ◌+◌, ◌≤◌, false, List, [], ◌∷◌, ◌++◌, length, refl, sym, ◌∙◌, ap, subst, arith, append_assoc, append-nil, length-append, Option, None, Some, IfSome, Ok, Err, cond, nat_lt, le-ltb}
 use Rattle.std.specs.List.{flat_map, range_with_len}
-use Rattle.std.proofs.lemmas.Grind.{flat_map-append}
 use Rattle.gcc_units.specs.declared.limits.TheConstants.{MOST_LINES, MOST_TRACE_BYTES}
 use Rattle.run_io.specs.Growth.{Grew, GrewInPart, Grew-in-part}
 use Rattle.send_core.specs.declared.call.Call.{Call}
@@ -14,10 +13,10 @@ use Rattle.call_trace.specs.declared.trace.Action.{Action}
 use Rattle.call_trace.specs.declared.trace.Action.TheVariants.{Ask, Look}
 use Rattle.call_trace.specs.Plain.{Plain}
 use Rattle.call_trace.specs.Reading.{trace_at, fault}
-use Rattle.call_trace.specs.Ordered.{served_by, served, served-push, ordered, ordered-push, added}
+use Rattle.call_trace.specs.Ordered.{served_by, served, ordered, ordered-push, added}
 use Rattle.reply_text.specs.declared.seen.Seen.{Seen}
 use Rattle.call_trace.specs.declared.fault.TheConstants.{TOO_LONG}
-use Rattle.run_top.specs.Replay.{looked, seen_from, of_actor, replayed, input}
+use Rattle.run_top.specs.Replay.{looked, seen_from, replayed, input}
 use Rattle.run_top.specs.Outcome.{PrintsPart}
 
 pub served-one : (history : List Entry) (line : Line) → served history (line ∷ []) ≡ history ++ added history line

@@ -3,3 +3,5 @@ pub mod Ending
 pub mod Reading
 pub mod Replay
 pub mod Outcome
+pub mod Racing
+pub mod Race

@@ -1,5 +1,5 @@
 -- What a trace is replayed to: the history of its calls in the order of its lines, and its glances.
-use Rattle.std.specs.Prelude.{◌≡◌, ℕ, ◌+◌, ◌≤◌, ◌==◌, nat_lt, Bool, if◌then◌else◌, List, [], ◌∷◌, ◌++◌, length, filter, Option, Result, Ok, Err}
+use Rattle.std.specs.Prelude.{◌≡◌, ℕ, ◌==◌, nat_lt, if◌then◌else◌, List, [], ◌∷◌, ◌++◌, length, filter, Result, Ok, Err}
 use Rattle.std.specs.List.{flat_map, range_with_len}
 use Rattle.gcc_units.specs.declared.limits.TheConstants.{MOST_LINES, MOST_TRACE_BYTES}
 use Rattle.send_core.specs.declared.call.Entry.{Entry}

@@ -2,16 +2,20 @@
 //! of it.
 #![tactic(auto)]
 
+mod racing;
 mod reading;
 mod replay;
 mod status;
 mod top;
 mod words;
+mod workers;
 mod writing;
 
 pub use status::Status;
 pub use top::{run, run_plain};
 pub use words::WordList;
 
+#[cfg(test)]
+mod race_tests;
 #[cfg(test)]
 mod tests;

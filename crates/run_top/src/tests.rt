@@ -39,7 +39,7 @@ fn bad(trace: &'static [u8], line: u32, reason: u32) -> Row {
     }
 }
 
-fn smallest_trace() -> &'static [u8] {
+pub(crate) fn smallest_trace() -> &'static [u8] {
     b"gcc-trace 1 1
 E 0 1000 v 9060000100000000000000aabede000131000000
 E 0 1100 a 906f000100000000000000bbbede000131000000
@@ -48,7 +48,7 @@ end
 "
 }
 
-fn smallest_text() -> &'static [u8] {
+pub(crate) fn smallest_text() -> &'static [u8] {
     b"gcc-history 1
 0 accepted 1000 0
 0 accepted 1100 1
@@ -115,7 +115,7 @@ end 4 0 300000
     )
 }
 
-fn bytes_of(alloc: Global, text: &[u8]) -> Result<Bytes, Fail> {
+pub(crate) fn bytes_of(alloc: Global, text: &[u8]) -> Result<Bytes, Fail> {
     let mut bytes = Bytes::new(alloc);
     for byte in text {
         bytes.push(*byte).ok().ok_or("there is room")?;
@@ -123,7 +123,7 @@ fn bytes_of(alloc: Global, text: &[u8]) -> Result<Bytes, Fail> {
     Ok(bytes)
 }
 
-fn words(alloc: Global, word: &[u8]) -> Result<WordList, Fail> {
+pub(crate) fn words(alloc: Global, word: &[u8]) -> Result<WordList, Fail> {
     let mut list = WordList::new(alloc);
     list.push(bytes_of(alloc, word)?)
         .ok()

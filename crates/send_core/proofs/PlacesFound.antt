@@ -1,10 +1,10 @@
 -- Where an accepted packet stands, its entry is that of its enqueue.
-use Rattle.std.proofs.Common.{◌≡◌, ℕ, suc, zero, ◌+◌, ◌-◌, ◌<◌, ◌≤◌, Option, None, Some, List, [], ◌∷◌, ◌++◌, length, map, slice_get, refl, sym, ◌∙◌, ap, subst, arith, length-append, append_assoc, ◌==◌, Bool, true, false}
+use Rattle.std.proofs.Common.{◌≡◌, ℕ, suc, zero, ◌+◌, ◌-◌, ◌<◌, ◌≤◌, None, Some, List, [], ◌∷◌, ◌++◌, length, map, slice_get, refl, sym, ◌∙◌, ap, arith, length-append, append_assoc, ◌==◌, true, false}
 use Rattle.std.proofs.lemmas.List.{append-nil, length-map}
-use Rattle.send_core.specs.declared.call.Call.{Call}
-use Rattle.send_core.specs.declared.call.Call.TheVariants.{Enqueue, Pace}
+use Rattle.send_core.specs.declared.call.Call.TheVariants.{Enqueue, Pace, Report, Configure}
+use Rattle.send_core.specs.declared.call.Change.{Change}
 use Rattle.send_core.specs.declared.call.Reply.{Reply}
-use Rattle.send_core.specs.declared.call.Reply.TheVariants.{Accepted, Paced, Refused}
+use Rattle.send_core.specs.declared.call.Reply.TheVariants.{Accepted, Paced, Credited, Configured, Refused}
 use Rattle.send_core.specs.declared.call.Entry.{Entry}
 use Rattle.send_core.specs.History.{AcceptedPacket, accepted_by, accepted, wire_in}
 use Rattle.send_core.specs.Places.{places_from}
@@ -126,10 +126,22 @@ no_pace h k e at p is =
     let none : [] ≡ p.packet ∷ [] = sym (ap (λ c. accepted_by c e.reply) is) ∙ p.accepts in
     absurd cc
 
+pub no_report : (h : List Entry) (k : ℕ) (e : Entry) (at : ℕ) (bytes : Listed ℕ) → IsPlaced h k e → e.call ≡ Report at bytes → ⊥
+no_report h k e at bytes p is =
+    let none : [] ≡ p.packet ∷ [] = sym (ap (λ c. accepted_by c e.reply) is) ∙ p.accepts in
+    absurd cc
+
+pub no_configure : (h : List Entry) (k : ℕ) (e : Entry) (at : ℕ) (change : Change) → IsPlaced h k e → e.call ≡ Configure at change → ⊥
+no_configure h k e at change p is =
+    let none : [] ≡ p.packet ∷ [] = sym (ap (λ c. accepted_by c e.reply) is) ∙ p.accepts in
+    absurd cc
+
 enqueue_wire : (at : ℕ) (class : Class) (wire : Listed ℕ) (given : Reply) (p : AcceptedPacket) → accepted_by (Enqueue at class wire) given ≡ p ∷ [] → p.wire ≡ wire.items
 enqueue_wire at class wire (Accepted moment index) p is =
     let same : p ≡ record { class = class; wire = wire.items; moment = moment } = cc in ap (λ (q : AcceptedPacket). q.wire) same
 enqueue_wire at class wire (Paced moment records) p is = absurd cc
+enqueue_wire at class wire (Credited moment judged signal m rate_in rates shares) p is = absurd cc
+enqueue_wire at class wire (Configured moment rates shares) p is = absurd cc
 enqueue_wire at class wire (Refused moment cause) p is = absurd cc
 
 pub enqueued_wire : (h : List Entry) (k : ℕ) (e : Entry) (at : ℕ) (class : Class) (wire : Listed ℕ) → IsPlaced h k e → e.call ≡ Enqueue at class wire
@@ -139,28 +151,19 @@ enqueued_wire h k e at class wire p is =
 
 -- ---- one more entry
 
-added : (h : List Entry) (n : ℕ) (ps : List AcceptedPacket) → n ≡ length h → length ps ≤ 1 → (length ps == 1) ≡ true
-    → map (λ (p : AcceptedPacket). n) ps ≡ length h ∷ []
-added h n [] is few test = absurd cc
-added h n (p ∷ []) is few test = rw is refl
-added h n (p ∷ q ∷ ps) is few test = absurd (omega arith)
+pub one-place : (n : ℕ) (ps : List AcceptedPacket) → length ps ≤ 1 → (length ps == 1) ≡ true → n ∷ [] ≡ map (λ (p : AcceptedPacket). n) ps
+one-place n [] few test = absurd cc
+one-place n (p ∷ []) few test = refl
+one-place n (p ∷ q ∷ ps) few test = absurd (omega arith)
 
-left : (n : ℕ) (ps : List AcceptedPacket) → length ps ≤ 1 → (length ps == 1) ≡ false → map (λ (p : AcceptedPacket). n) ps ≡ []
-left n [] few test = refl
-left n (p ∷ []) few test = absurd cc
-left n (p ∷ q ∷ ps) few test = absurd (omega arith)
+pub no-place : (n : ℕ) (ps : List AcceptedPacket) → length ps ≤ 1 → (length ps == 1) ≡ false → [] ≡ map (λ (p : AcceptedPacket). n) ps
+no-place n [] few test = refl
+no-place n (p ∷ []) few test = absurd cc
+no-place n (p ∷ q ∷ ps) few test = absurd (omega arith)
 
-pub places-accepted : (h : List Entry) (e : Entry) (places : List ℕ) → places ≡ places_from 0 h → (length (accepted_by e.call e.reply) == 1) ≡ true
-    → places ++ length h ∷ [] ≡ places_from 0 (h ++ e ∷ [])
-places-accepted h e places are test =
-    let z : 0 + length h ≡ length h = omega arith in
-    ap (λ ps. ps ++ length h ∷ []) are
-    ∙ (ap (λ ms. places_from 0 h ++ ms) (sym (added h (0 + length h) (accepted_by e.call e.reply) z (accepted_by-few e.call e.reply) test))
-    ∙ sym (places-push 0 h e))
-
-pub places-other : (h : List Entry) (e : Entry) (places : List ℕ) → places ≡ places_from 0 h → (length (accepted_by e.call e.reply) == 1) ≡ false
-    → places ≡ places_from 0 (h ++ e ∷ [])
-places-other h e places are test =
-    are ∙ (sym (append-nil (places_from 0 h))
-    ∙ (ap (λ ms. places_from 0 h ++ ms) (sym (left (0 + length h) (accepted_by e.call e.reply) (accepted_by-few e.call e.reply) test))
-    ∙ sym (places-push 0 h e)))
+pub places-more : (h : List Entry) (e : Entry) (places : List ℕ) (number : ℕ) → places ≡ places_from 0 h → number ≡ length h
+    → places ++ map (λ (p : AcceptedPacket). number) (accepted_by e.call e.reply) ≡ places_from 0 (h ++ e ∷ [])
+places-more h e places number are is =
+    let z : number ≡ 0 + length h = omega (arith, is) in
+    ap (λ ps. ps ++ map (λ (p : AcceptedPacket). number) (accepted_by e.call e.reply)) are
+    ∙ (ap (λ n. places_from 0 h ++ map (λ (p : AcceptedPacket). n) (accepted_by e.call e.reply)) z ∙ sym (places-push 0 h e))

@@ -1,27 +1,33 @@
 -- What one more entry does to the lists and numbers of a history.
-use Rattle.std.proofs.Common.{◌≡◌, ℕ, suc, zero, ◌+◌, ◌*◌, ◌<◌, ◌≤◌, Option, None, Some, List, [], ◌∷◌, ◌++◌, length, fold, All, refl, sym, ◌∙◌, ap, subst, arith, append_assoc, length-append, get_or}
-use Rattle.std.specs.List.{flat_map}
-use Rattle.std.proofs.lemmas.List.{append-nil}
+use Rattle.std.proofs.Common.{◌≡◌, ℕ, pos, suc, ◌+◌, ◌≤◌, ◌||◌, Bool, true, false, Option, None, Some, List, [], ◌∷◌, ◌++◌, length, All, refl, ◌∙◌, ap, arith, length-append, get_or}
+use Rattle.std.specs.List.{list_any}
 use Rattle.std.proofs.lemmas.List.Sums.{fold-append}
-use Rattle.std.proofs.lemmas.List.Elements.{All-nil, All-cons, All-append, All-filter}
-use Rattle.std.proofs.lemmas.Grind.{flat_map-append}
+use Rattle.std.proofs.lemmas.List.Folds.{list_any-append}
+use Rattle.std.proofs.lemmas.List.Elements.{All-nil, All-cons, All-filter}
+use Rattle.gcc_units.specs.Walk.{walk-push, flat_map-push, flat_each-push}
+use Rattle.probe_clusters.specs.Deeds.{Deed}
+use Rattle.estimator.specs.Est.{Est, start_est}
 use Rattle.pace_queues.specs.declared.ticket.Ticket.{Ticket}
 use Rattle.pace_queues.specs.Waiting.{HasIndexBelow}
 use Rattle.pacer.specs.declared.sent.Sent.{Sent}
-use Rattle.pacer.specs.Pace.{names, IsBelow, NamesBelow, unsent}
+use Rattle.pacer.specs.Pace.{IsBelow, NamesBelow, unsent, is_media}
+use Rattle.pacer.specs.Afters.{has_media}
 use Rattle.pacer.specs.Records.{unsent-append, unsent-then, unsent-later}
 use Rattle.send_core.specs.declared.call.Call.{Call}
-use Rattle.send_core.specs.declared.call.Call.TheVariants.{Enqueue, Pace}
+use Rattle.send_core.specs.declared.call.Call.TheVariants.{Enqueue}
 use Rattle.send_core.specs.declared.call.Reply.{Reply}
-use Rattle.send_core.specs.declared.call.Reply.TheVariants.{Accepted, Paced, Refused}
+use Rattle.send_core.specs.declared.call.Reply.TheVariants.{Accepted}
 use Rattle.send_core.specs.declared.call.Entry.{Entry}
-use Rattle.send_core.specs.History.{later, now, AcceptedPacket, accepted_by, accepted, ticket_of, tickets_from, tickets, sent_by, sent, waiting}
+use Rattle.send_core.specs.declared.settings.TheConstants.{START_RATE}
+use Rattle.send_core.specs.History.{later, now, AcceptedPacket, accepted_by, accepted, ticket_of, tickets_from, tickets, sent_by, sent, waiting, began}
+use Rattle.send_core.specs.Settings.{start_settings, settings_by, settings, streams_by, streams, starts_by, started}
+use Rattle.send_core.specs.Reports.{events_by, events, deeds_by, cluster_deeds}
+use Rattle.send_core.specs.Estimates.{est_by, est}
+use Rattle.send_core.specs.Levels.{deeds, padding_by, padding}
+use Rattle.send_core.specs.Levels as levels
 
 pub now-push : (h : List Entry) (e : Entry) → now (h ++ e ∷ []) ≡ later (now h) e.call
 now-push h e = fold-append (λ m (x : Entry). later m x.call) 0 h (e ∷ [])
-
-flat_map-push : {X A : Type 0} (f : X → List A) (xs : List X) (x : X) → flat_map f (xs ++ x ∷ []) ≡ flat_map f xs ++ f x
-flat_map-push f xs x = flat_map-append f xs (x ∷ []) ∙ ap (λ ys. flat_map f xs ++ ys) (append-nil (f x))
 
 pub accepted-push : (h : List Entry) (e : Entry) → accepted (h ++ e ∷ []) ≡ accepted h ++ accepted_by e.call e.reply
 accepted-push h e = flat_map-push (λ (x : Entry). accepted_by x.call x.reply) h e
@@ -66,6 +72,48 @@ waiting-push h e known =
     ∙ (ap (λ ts. unsent (sent h ++ sent_by e.reply) ts) all
     ∙ (unsent-then (sent h) (sent_by e.reply) (tickets h ++ new)
     ∙ ap (unsent (sent_by e.reply)) (unsent-append (sent h) (tickets h) new ∙ ap (λ ts. waiting h ++ ts) late)))
+
+-- ---- settings and streams
+
+pub settings-push : (h : List Entry) (e : Entry) → settings (h ++ e ∷ []) ≡ settings_by (settings h) e.call e.reply
+settings-push h e = fold-append (λ s (x : Entry). settings_by s x.call x.reply) start_settings h (e ∷ [])
+
+pub streams-push : (h : List Entry) (e : Entry) → streams (h ++ e ∷ []) ≡ streams_by (streams h) e.call e.reply
+streams-push h e = fold-append (λ ss (x : Entry). streams_by ss x.call x.reply) [] h (e ∷ [])
+
+or-nil : (a b : Bool) → (a || (b || false)) ≡ (a || b)
+or-nil true b = refl
+or-nil false true = refl
+or-nil false false = refl
+
+pub started-push : (h : List Entry) (e : Entry) → started (h ++ e ∷ []) ≡ (started h || starts_by e.call e.reply)
+started-push h e = list_any-append (λ (x : Entry). starts_by x.call x.reply) h (e ∷ []) ∙ or-nil (started h) (starts_by e.call e.reply)
+
+-- ---- reports, clusters and estimates
+
+pub events-push : (h : List Entry) (e : Entry) → events (h ++ e ∷ []) ≡ events h ++ events_by e.call e.reply
+events-push h e = flat_map-push (λ (x : Entry). events_by x.call x.reply) h e
+
+pub cluster_deeds-push : (h : List Entry) (e : Entry)
+    → cluster_deeds (h ++ e ∷ []) ≡ cluster_deeds h ++ deeds_by (started h) (cluster_deeds h) e.call e.reply
+cluster_deeds-push h e = walk-push (λ before (ds : List Deed) (x : Entry). ds ++ deeds_by (started before) ds x.call x.reply) [] h e
+
+pub est-push : (h : List Entry) (e : Entry) → est (h ++ e ∷ []) ≡ est_by (settings h) (cluster_deeds h) (est h) e.call e.reply
+est-push h e =
+    walk-push (λ before (x : Est) (y : Entry). est_by (settings before) (cluster_deeds before) x y.call y.reply) (start_est START_RATE) h e
+
+-- ---- levels
+
+pub began-push : (h : List Entry) (e : Entry) → began (h ++ e ∷ []) ≡ (began h || has_media (sent_by e.reply))
+began-push h e =
+    ap (list_any (λ (r : Sent). is_media r.kind)) (sent-push h e)
+    ∙ list_any-append (λ (r : Sent). is_media r.kind) (sent h) (sent_by e.reply)
+
+pub deeds-push : (h : List Entry) (e : Entry) → deeds (h ++ e ∷ []) ≡ deeds h ++ levels.deeds_by h e
+deeds-push h e = flat_each-push levels.deeds_by h e
+
+pub padding-push : (h : List Entry) (e : Entry) → padding (h ++ e ∷ []) ≡ padding_by h (padding h) e
+padding-push h e = walk-push padding_by (pos 0) h e
 
 -- ---- counts
 

@@ -1,6 +1,13 @@
 pub mod History
+pub mod Settings
+pub mod Reports
+pub mod Estimates
+pub mod Levels
 pub mod Reply
+pub mod Recording
 pub mod Wires
 pub mod Places
 pub mod Settled
 pub mod Stands
+pub mod Outcomes
+pub mod Planning

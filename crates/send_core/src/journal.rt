@@ -1,11 +1,14 @@
 //! The entries of all calls that were served.
 
-ghost use Rattle.std.specs.Prelude.{◌≡◌, ◌==◌, ◌<◌, [], ◌∷◌, ◌++◌, List, Some, length, map, OnOk, slice_get};
+ghost use Rattle.std.specs.Prelude.{◌≡◌, ◌==◌, ◌<◌, [], ◌∷◌, ◌++◌, ◌≤◌, ◌↔◌, Some, length, map, take, IfOk, OnOk, IsNone, slice_get};
 ghost use Rattle.std.specs.Option.{option_copied};
-ghost use Rattle.send_core.specs.History.{accepted, accepted_by, wire_in};
+ghost use Rattle.send_core.specs.History.{AcceptedPacket, accepted, accepted_by, wire_in};
+ghost use Rattle.send_core.specs.Estimates.{target as target_of};
+ghost use Rattle.send_core.specs.Levels.{tally_of};
 
 use crate::call::{Call, Entry, Reply};
-use gcc_units::{IdList, NoMemory, Sequence};
+use gcc_units::{IdList, NoMemory, Rate, Sequence};
+use pacer::Tally;
 use std::alloc::Global;
 use std::marker::Model;
 
@@ -15,6 +18,10 @@ pub struct Journal {
     entries: Sequence<Entry>,
     /// For each accepted packet the number of its entry.
     places: IdList,
+    /// What the time after the first n entries counts at, for each n.
+    tallies: Sequence<Tally>,
+    /// The target rate after all entries, in bit/s.
+    target: Rate,
 }
 
 impl Model for Journal {
@@ -23,22 +30,29 @@ impl Model for Journal {
 
     ghost Value = { Listed Entry };
 
-    ghost use Rattle.send_core.specs.Places.{entries_of, HasPlaces};
+    ghost use Rattle.send_core.specs.Places.{entries_of, IsKept};
 
     ghost view = { entries_of };
 
-    ghost invariant = { HasPlaces };
+    ghost invariant = { IsKept };
 }
 
 impl Journal {
-    /// No entry yet.
-    pub(crate) fn new(alloc: Global) -> Self
-        ensures { result.items ≡ [] }
+    /// No entry yet. It takes the memory of the first tally.
+    pub(crate) fn new(alloc: Global, first: Tally, target: Rate) -> Result<Self, NoMemory>
+        requires tally { first ≡ tally_of [] }
+        requires target { target ≡ target_of [] }
+        ensures { IfOk result (λ j. j.items ≡ []) }
     {
-        Journal {
+        let mut tallies = Sequence::new(alloc);
+        tallies.reserve(1)?;
+        tallies.put(first);
+        Ok(Journal {
             entries: Sequence::new(alloc),
             places: IdList::new(alloc),
-        }
+            tallies,
+            target,
+        })
     }
 
     /// How many entries there are.
@@ -62,23 +76,42 @@ impl Journal {
         self.entries.get(k)
     }
 
+    /// The rate in force, the window and the padding rate after the first `n` entries; `None` exactly
+    /// where there are fewer.
+    pub fn tally(&self, n: u32) -> Option<Tally>
+        ensures some { n ≤ length self.now.items → result ≡ Some (tally_of (take n self.now.items)) }
+        ensures none { IsNone result ↔ (length self.now.items < n) }
+    {
+        self.tallies.get(n).copied()
+    }
+
+    /// The target rate after all entries, in bit/s.
+    pub fn target(&self) -> Rate
+        ensures { result ≡ target_of self.now.items }
+    {
+        self.target
+    }
+
     /// Makes room for one more entry.
     pub(crate) fn reserve(&mut self) -> Result<(), NoMemory>
         ensures items { self.new.items ≡ self.old.items }
         ensures room { OnOk result (0 < self.new.spare) }
     {
         self.places.reserve(1)?;
+        self.tallies.reserve(1)?;
         self.entries.reserve(1)
     }
 
-    /// Adds an entry, for which there is room.
-    pub(crate) fn add(&mut self, entry: Entry)
-        requires { 0 < self.old.spare }
+    /// Adds an entry, for which there is room, and the tally and the target after it.
+    pub(crate) fn add(&mut self, entry: Entry, tally: Tally, target: Rate)
+        requires room { 0 < self.old.spare }
+        requires tally { tally ≡ tally_of (self.old.items ++ entry ∷ []) }
+        requires target { target ≡ target_of (self.old.items ++ entry ∷ []) }
         ensures { self.new.items ≡ self.old.items ++ entry ∷ [] }
     {
-        if is_accepted(&entry) {
-            self.places.put(self.entries.len());
-        }
+        note_place(&mut self.places, self.entries.len(), &entry);
+        self.tallies.put(tally);
+        self.target = target;
         self.entries.put(entry);
     }
 
@@ -96,7 +129,19 @@ impl Journal {
         match &entry.call {
             Call::Enqueue { wire, .. } => wire.as_slice(),
             Call::Pace { .. } => unreachable!(),
+            Call::Report { .. } => unreachable!(),
+            Call::Configure { .. } => unreachable!(),
         }
+    }
+}
+
+/// Where the entry is that of an accepted packet, its number is kept.
+fn note_place(places: &mut IdList, number: u32, entry: &Entry)
+    requires { 0 < places.old.spare }
+    ensures { places.new.items ≡ places.old.items ++ map (λ (p : AcceptedPacket). number) (accepted_by entry.now.call entry.now.reply) }
+{
+    if is_accepted(entry) {
+        places.put(number);
     }
 }
 

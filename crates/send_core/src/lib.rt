@@ -3,15 +3,18 @@
 #![tactic(auto)]
 
 mod call;
+mod checks;
 mod copies;
 mod journal;
-mod pacing;
 mod parts;
+mod planning;
+mod recording;
 mod sender;
 mod settings;
 mod stamping;
+mod telling;
 
-pub use call::{Answer, ApplyFault, Call, Cause, Entry, Reply};
+pub use call::{Answer, ApplyFault, Call, Cause, Change, Entry, Rates, Reply};
 pub use journal::Journal;
 pub use sender::Sender;
 pub use settings::START_RATE;

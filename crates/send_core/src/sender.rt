@@ -3,13 +3,11 @@
 ghost use Rattle.std.specs.Prelude.{◌≡◌, ℕ, ◌+◌, ◌*◌, ◌<◌, ◌≤◌, ◌↔◌, [], ◌∷◌, ◌++◌, length, min, IfOk, IfErr, OnOk, IsErr};
 
 use crate::call::{Answer, ApplyFault, Call, Entry};
-use crate::copies::{most_sends, rooms, twin};
+use crate::copies::twin;
 use crate::journal::Journal;
 use crate::parts::Parts;
-use crate::settings::START_RATE;
-use crate::stamping::{stamp_all, wire_room};
-use gcc_units::{MOST_ENTRIES, NoMemory, Rate};
-use pace_queues::Queues;
+use crate::stamping::{most_sends, stamp_all, wire_room};
+use gcc_units::{GREATEST_RATE, MOST_ENTRIES, NoMemory, Rate};
 use std::alloc::Global;
 use std::marker::Model;
 
@@ -37,25 +35,20 @@ impl Model for Sender {
 impl Sender {
     ghost use Rattle.send_core.specs.declared.call.ApplyFault.TheVariants as fault;
     ghost use Rattle.send_core.specs.History.{entry};
-    ghost use Rattle.send_core.specs.Reply.{reply, target, board, IsLegal};
+    ghost use Rattle.send_core.specs.Estimates.{target};
+    ghost use Rattle.send_core.specs.Reply.{reply, board, IsLegal};
     ghost use Rattle.send_core.specs.Wires.{wires};
     ghost use Rattle.rtp_wire.specs.Wires.{bare_wires};
 
     /// A sender with the settings that a sender begins with, at moment 0. It takes the memory of
-    /// the waiting packets.
+    /// the waiting packets, of the sent packets that are kept, and of the received rate.
     pub fn new(alloc: Global) -> Result<Sender, NoMemory>
         ensures { IfOk result (λ s. s ≡ []) }
     {
-        let queues = Queues::new(alloc)?;
-        Ok(Sender {
-            journal: Journal::new(alloc),
-            parts: Parts {
-                moment: 0,
-                accepted: 0,
-                sent: 0,
-                queues,
-            },
-        })
+        let parts = Parts::new(alloc)?;
+        let target = parts.estimator.current().target;
+        let journal = Journal::new(alloc, parts.pacer.tally(), target)?;
+        Ok(Sender { journal, parts })
     }
 
     /// Serves one call. On `Ok` the journal has grown by exactly the entry of this caller, this
@@ -78,26 +71,31 @@ impl Sender {
         if self.journal.len() >= MOST_ENTRIES {
             return Err((ApplyFault::JournalFull, call));
         }
-        let sends = most_sends(&self.parts.queues);
-        let Ok((kept, given)) = rooms(alloc, sends) else {
-            return Err((ApplyFault::NoMemory, call));
-        };
-        let Ok(packets) = wire_room(alloc, sends) else {
-            return Err((ApplyFault::NoMemory, call));
-        };
         if self.journal.reserve().is_err() {
             return Err((ApplyFault::NoMemory, call));
         }
-        let reply = self.parts.serve(&call, kept);
-        let answer = Answer {
-            reply: twin(&reply, given),
-            wires: stamp_all(&self.journal, &reply, packets),
+        let Ok(packets) = wire_room(alloc, most_sends(&call)) else {
+            return Err((ApplyFault::NoMemory, call));
         };
-        self.journal.add(Entry {
-            caller,
-            call,
-            reply,
-        });
+        let id = self.parts.settings.extension_id as u8;
+        let Ok((reply, rooms)) = self.parts.serve(alloc, &call) else {
+            return Err((ApplyFault::NoMemory, call));
+        };
+        let answer = Answer {
+            reply: twin(&reply, rooms),
+            wires: stamp_all(&self.journal, id, &reply, packets),
+        };
+        let tally = self.parts.pacer.tally();
+        let target = self.parts.estimator.current().target;
+        self.journal.add(
+            Entry {
+                caller,
+                call,
+                reply,
+            },
+            tally,
+            target,
+        );
         Ok(answer)
     }
 
@@ -111,9 +109,10 @@ impl Sender {
 
     /// The target rate, in bit/s.
     pub fn target(&self) -> Rate
-        ensures { result ≡ target self.now }
+        ensures target { result ≡ target self.now }
+        ensures greatest { result ≤ GREATEST_RATE }
     {
-        START_RATE
+        self.parts.estimator.current().target
     }
 
     /// The journal's length plus 2^20 times the target.

@@ -5,3 +5,6 @@ pub mod Deltas
 pub mod Headers
 pub mod Outcomes
 pub mod Told
+pub mod Digits
+pub mod Chosen
+pub mod Spelled

@@ -2,3 +2,4 @@ pub mod Chunks
 pub mod Spelling
 pub mod Reading
 pub mod Checks
+pub mod Canonical

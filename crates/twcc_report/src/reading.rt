@@ -73,7 +73,7 @@ fn read_header(bytes: &[u8]) -> Result<u16, ReadReport>
 }
 
 /// How many symbols a chunk has.
-fn symbol_count(word: u16) -> usize
+pub(crate) fn symbol_count(word: u16) -> usize
     ensures { result ≡ symbol_count word }
 {
     if word < 0x8000 {

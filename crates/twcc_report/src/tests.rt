@@ -1,7 +1,8 @@
 //! What no clause says: reports of the worked runs, and that memory is not wanting.
 
 use crate::Status::{Large, NotReceived, Small};
-use crate::{ReadReport, ReportFault, Status, read_report};
+use crate::{ReadReport, Report, ReportFault, Status, read_report, write_report};
+use gcc_units::Sequence;
 use std::alloc::{AllocError, Global};
 use std::test::Fail;
 
@@ -80,6 +81,11 @@ const SPELLED: [Spelled; 11] = [
 ];
 
 const REFERENCES: [i32; 11] = [1, 1, 1, 1, 1, 1, 1, 1, 1, 8_388_607, -8_388_608];
+
+/// Which of them are the canonical spelling.
+const CANONICAL: [bool; 11] = [
+    true, false, false, false, true, true, true, true, false, true, true,
+];
 
 /// A report that is refused: its first byte, its length in words less one, its status count, the
 /// bytes behind the header, and the fault.
@@ -205,5 +211,53 @@ fn beginnings_of_a_report(rt: HostRuntime) -> Result<(), Fail> {
         let got = read_report(rt.alloc(), &bytes[..k]).err();
         assert!(rt; got == Some(ReadReport::Fault(want)), "{k} bytes");
     }
+    Ok(())
+}
+
+#[test]
+fn written_again(rt: HostRuntime) -> Result<(), Fail> {
+    for (k, (first, words, count, reference, behind, _)) in SPELLED.into_iter().enumerate() {
+        let bytes = bytes_of(rt.alloc(), first, words, count, reference, behind)?;
+        let report = read_report(rt.alloc(), &bytes)?;
+        let written = write_report(rt.alloc(), &report)?;
+        assert!(rt; k < 11);
+        let same = written.as_slice() == bytes.as_slice();
+        assert!(rt; same == CANONICAL[k], "report {k}");
+    }
+    Ok(())
+}
+
+#[test]
+fn one_bit_vector(rt: HostRuntime) -> Result<(), Fail> {
+    let statuses = Vec::from_array(rt.alloc(), [Small(4), NotReceived, Small(8)])?;
+    let report = Report {
+        sender: 1,
+        media: 2,
+        base: 7,
+        reference: 1,
+        feedback: 9,
+        statuses: Sequence::from_vec(statuses),
+    };
+    let want = bytes_of(rt.alloc(), 0x8f, 5, 3, [0, 0, 1], &[0xa8, 0, 4, 8])?;
+    let got = write_report(rt.alloc(), &report)?;
+    assert!(rt; got.as_slice() == want.as_slice());
+    Ok(())
+}
+
+#[test]
+fn two_bit_vector(rt: HostRuntime) -> Result<(), Fail> {
+    let statuses = Vec::from_array(rt.alloc(), [Large(-300), Small(255)])?;
+    let report = Report {
+        sender: 1,
+        media: 2,
+        base: 7,
+        reference: -2,
+        feedback: 9,
+        statuses: Sequence::from_vec(statuses),
+    };
+    let behind = [0xe4, 0, 0xfe, 0xd4, 0xff, 0, 0, 0];
+    let want = bytes_of(rt.alloc(), 0x8f, 6, 2, [0xff, 0xff, 0xfe], &behind)?;
+    let got = write_report(rt.alloc(), &report)?;
+    assert!(rt; got.as_slice() == want.as_slice());
     Ok(())
 }

@@ -1,59 +1,32 @@
-use Rattle.std.proofs.Common.{◌≡◌, ◌+◌, ◌-◌, ◌<◌, ◌≤◌, ◌∷◌, [], ◌++◌, length, List, Result, Ok, Err, ℕ, Bool, true, false, sym, ◌∙◌, ap, nat_eq, codes, arith}
-use Rattle.std.specs.Prelude.{OnOk}
+use Rattle.std.proofs.Common.{◌≡◌, ◌+◌, ◌<◌, ◌≤◌, ◌∷◌, [], ◌++◌, length, List, ℕ, Bool, true, false, sym, ◌∙◌, ap, nat_eq, codes, arith, length-append}
 use Rattle.std.specs.Result.{is_err}
-use Rattle.std.proofs.lemmas.Bool.{eqb-true}
 use Rattle.std.specs.Cmp.Lexicographic.{pointwise}
-use Rattle.gcc_units.specs.Listed.{Listed, bare}
 use Rattle.gcc_units.specs.declared.limits.TheConstants.{MOST_LINES}
-use Rattle.call_trace.specs.declared.trace.Line.{Line}
 use Rattle.call_trace.specs.Reading.{is_end}
-use Rattle.call_trace.proofs.Loop.{ends_well, ends_badly, too_many, bad_line, good_line, no_more}
+use Rattle.call_trace.proofs.Pushed.{pushed, still_bare}
+use Rattle.call_trace.proofs.Loop.{ends, too_many, bad_line, good_line, no_more}
 use Rattle.call_trace.proofs.reading.actions.Goals as goal
 
 -- the test for the line `end`
 told : (line word : List ℕ) (b v : Bool) → b ≡ pointwise nat_eq line word → word ≡ codes "end" → b ≡ v → is_end line ≡ v
 told line word b v is end v-is = rw end at (sym is ∙ v-is)
 
--- what a push that did not fail promised
-pushed : {A E : Type 0} (r : Result A E) (P : Type 0) → OnOk r P → is_err r ≡ false → P
-pushed (Ok x) P p ok = p
-pushed (Err e) P p ok = absurd cc
-
-empty : (n : ℕ) (b : Bool) → b ≡ nat_eq n 0 → b ≡ true → n ≡ 0
-empty n b is zero_is = eqb-true n 0 (sym is ∙ zero_is)
-
-filled : (n : ℕ) (b : Bool) → b ≡ nat_eq n 0 → b ≡ false → 0 < n
-filled n b is some = grind arith
-
-still_bare : (new old : Listed Line) (first : Line) → new ≡ record { items = old.items ++ first ∷ []; spare = old.spare - 1 } → old ≡ bare old.items → new ≡ bare new.items
-still_bare new old first grown was =
-    let none : old.spare ≡ 0 = ap (λ (l : Listed Line). l.spare) was in
-    let made : new ≡ bare (old.items ++ first ∷ []) = rw none at grown in
-    made ∙ ap bare (sym (ap (λ (l : Listed Line). l.items) grown))
-
-pub returns-then-is_empty : goal.returns-then-is_empty
-returns-then-is_empty c =
+pub returns-then-eq-clause-read : goal.returns-then-eq-clause-read
+returns-then-eq-clause-read c =
     let end : is_end c.in-Some.line.now ≡ true = told c.in-Some.line.now c.as_slice.result.now c.eq.result true c.eq.ensures c.as_slice.ensures c.if-eq.true in
-    let none : length c.in-Some.more.now ≡ 0 = empty (length c.in-Some.more.now) c.is_empty.result c.is_empty.ensures c.if-is_empty.true in
-    (ends_well _ _ _ _ _ _ _ _ c.loop-line.invariant.reading (record { cut = c.in-Some.ensures.some }) end none, c.loop-line.invariant.bare)
+    ends _ _ _ _ _ _ _ _ _ c.loop-line.invariant.reading (record { cut = c.in-Some.ensures.some }) end
 
-pub returns-then-eq : goal.returns-then-eq
-returns-then-eq c =
-    let end : is_end c.in-Some.line.now ≡ true = told c.in-Some.line.now c.as_slice.result.now c.eq.result true c.eq.ensures c.as_slice.ensures c.if-eq.true in
-    let some : 0 < length c.in-Some.more.now = filled (length c.in-Some.more.now) c.is_empty.result c.is_empty.ensures c.if-is_empty.false in
-    rw c.at_line.ensures (ends_badly _ _ _ _ _ _ _ _ c.loop-line.invariant.reading (record { cut = c.in-Some.ensures.some }) end some)
-
-pub returns-then-count : goal.returns-then-count
-returns-then-count c =
+pub returns-then-count-clause-err : goal.returns-then-count-clause-err
+returns-then-count-clause-err c =
     let other : is_end c.in-Some.line.now ≡ false = told c.in-Some.line.now c.as_slice.result.now c.eq.result false c.eq.ensures c.as_slice.ensures c.if-eq.false in
     let high : MOST_LINES + 1 < c.loop-line.count = omega arith in
-    rw c.at_line-then-count.ensures (too_many _ _ _ _ _ _ _ _ c.loop-line.invariant.reading (record { cut = c.in-Some.ensures.some }) other high)
+    rw c.at_line.ensures (too_many _ _ _ _ _ _ _ _ _ c.loop-line.invariant.reading (record { cut = c.in-Some.ensures.some }) other high)
 
-pub returns-in-Err : goal.returns-in-Err
-returns-in-Err c =
+pub returns-in-Err-clause-err : goal.returns-in-Err-clause-err
+returns-in-Err-clause-err c =
     let other : is_end c.in-Some.line.now ≡ false = told c.in-Some.line.now c.as_slice.result.now c.eq.result false c.eq.ensures c.as_slice.ensures c.if-eq.false in
     let low : c.loop-line.count ≤ MOST_LINES + 1 = omega arith in
-    rw c.at_line-in-Err.ensures (bad_line _ _ _ _ _ _ _ _ c.loop-line.invariant.reading (record { cut = c.in-Some.ensures.some }) c.in-Err.bad other low c.in-Err.ensures)
+    rw c.at_line-in-Err.ensures (bad_line _ _ _ _ _ _ _ _ _ c.loop-line.invariant.reading (record { cut = c.in-Some.ensures.some }) c.in-Err.bad other low c.in-Err.ensures)
 
 pub loop-line-preserved : goal.loop-line-preserved
 loop-line-preserved c =
@@ -63,11 +36,12 @@ loop-line-preserved c =
     let grown = pushed c.push.result _ c.push.ensures.ok ok in
     let items : c.push.new.self.items ≡ c.loop-line.lines.items ++ c.in-Ok.first ∷ [] = ap (λ l. l.items) grown in
     record {
-      reading = good_line _ _ _ _ _ _ _ _ c.loop-line.invariant.reading (record { cut = c.in-Some.ensures.some }) c.in-Ok.first c.push.new.self.items other low c.in-Ok.ensures items;
+      reading = good_line _ _ _ _ _ _ _ _ _ c.loop-line.invariant.reading (record { cut = c.in-Some.ensures.some }) c.in-Ok.first c.push.new.self.items other low c.in-Ok.ensures items;
       bare = still_bare c.push.new.self c.loop-line.lines c.in-Ok.first grown c.loop-line.invariant.bare;
       few = omega arith;
+      count = omega (arith, ap length items, length-append c.loop-line.lines.items (c.in-Ok.first ∷ []), c.loop-line.invariant.count);
       short = omega (arith, c.in-Some.ensures.shorter, c.loop-line.invariant.short);
     }
 
-pub returns : goal.returns
-returns c = rw c.at_line-2.ensures (no_more _ _ _ _ _ _ c.loop-line.invariant.reading c.in_default.ensures.none)
+pub returns-clause-err : goal.returns-clause-err
+returns-clause-err c = rw c.at_line-2.ensures (no_more _ _ _ _ _ _ _ c.loop-line.invariant.reading c.in_default.ensures.none)

@@ -8,9 +8,10 @@ use Rattle.call_trace.proofs.reading.actions.Given as goal
 
 abbrev pub invariant-loop-line : goal.invariant-loop-line
 invariant-loop-line l = record {
-  reading : IsReading MOST_LINES l.actors l.count l.lines.items l.rest (actions_at MOST_LINES l.actors 2 (lines_of l.bytes).whole (lines_of l.bytes).rest);
+  reading : IsReading MOST_LINES l.actors l.count l.lines.items l.rest (lines_of l.bytes).rest (actions_at MOST_LINES l.actors 2 (lines_of l.bytes).whole);
   bare : l.lines ≡ bare l.lines.items;
   few : l.count ≤ MOST_LINES + 2;
+  count : l.count ≡ length l.lines.items + 2;
   short : length l.rest ≤ length l.bytes;
 }
 

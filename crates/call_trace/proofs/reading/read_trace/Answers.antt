@@ -26,7 +26,7 @@ fits bytes (Ok trace) gives =
 fits bytes (Err e) gives = tt
 
 is_settled : (bytes : List ℕ) (result : Result Trace ReadTrace) → GivesTrace result (trace_at MOST_LINES bytes) → IfOk result (λ trace. trace.lines ≡ bare trace.lines.items) → IfOk result (λ trace. IsSettled trace)
-is_settled bytes (Ok trace) gives lines = record { lines = lines; packets = (trace_found MOST_LINES bytes (plain trace) gives).settled }
+is_settled bytes (Ok trace) gives lines = record { lines = lines; each = (trace_found MOST_LINES bytes (plain trace) gives).settled }
 is_settled bytes (Err e) gives lines = tt
 
 fault_is : (bytes : List ℕ) (result : Result Trace ReadTrace) → GivesTrace result (trace_at MOST_LINES bytes) → IfErr result (λ e. IfFault e (λ f. IsFirstFault MOST_LINES bytes f))

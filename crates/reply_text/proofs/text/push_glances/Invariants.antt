@@ -1,4 +1,4 @@
-use Rattle.std.proofs.Common.{◌≡◌, ◌++◌, ℕ, ◌==◌, take, length, [], unwrap_or}
+use Rattle.std.proofs.Common.{◌≡◌, ◌++◌, ℕ, take, [], unwrap_or}
 use Rattle.std.specs.String.{string_bytes}
 use Rattle.std.specs.BTreeMap.{get}
 use Rattle.std.specs.Ordering.{nat_cmp}

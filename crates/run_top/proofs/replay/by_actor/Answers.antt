@@ -1,5 +1,4 @@
-use Rattle.std.proofs.Common.{◌≡◌, ℕ, ◌+◌, ◌++◌, sym, ◌∙◌, ap}
-use Rattle.std.specs.List.{flat_map, range_with_len}
+use Rattle.std.proofs.Common.{◌++◌, sym, ◌∙◌, ap}
 use Rattle.run_top.specs.Replay.{of_actor}
 use Rattle.run_top.proofs.Serving.{flat_map-range}
 use Rattle.run_top.proofs.replay.by_actor.Goals as goal

@@ -1,4 +1,3 @@
-use Rattle.std.proofs.Common.{◌≡◌, sym, ◌∙◌, ap}
 use Rattle.run_top.proofs.Serving.{served-ask, served-look}
 use Rattle.run_top.proofs.replay.serve_line.Goals as goal
 

@@ -1,6 +1,5 @@
-use Rattle.std.proofs.Common.{◌≡◌, ◌≤◌, ◌+◌, ◌++◌, [], ◌∷◌, List, length, length-append, sym, ◌∙◌, ap, arith}
+use Rattle.std.proofs.Common.{◌≡◌, ◌≤◌, ◌+◌, ◌++◌, [], ◌∷◌, length, length-append, sym, ◌∙◌, ap, arith}
 use Rattle.gcc_units.specs.Listed.{Listed}
-use Rattle.send_core.specs.declared.call.Entry.{Entry}
 use Rattle.call_trace.specs.Ordered.{served, ordered-nil}
 use Rattle.reply_text.specs.declared.seen.Seen.{Seen}
 use Rattle.run_top.specs.Replay.{looked, seen_from}

@@ -1,0 +1,4 @@
+mod Draining
+mod Taking
+mod Carrying
+mod PaceLoop

@@ -1,0 +1,247 @@
+ghost use Rattle.std.specs.Prelude.{◌≡◌, ◌<◌, ◌≤◌, [], length, IfOk};
+ghost use Rattle.turn_lock.specs.Seats.{new_seat};
+
+use crate::{Glance, SenderSeat, SenderSeats, Shared};
+use gcc_units::{Bytes, Class};
+use send_core::{Reply, Sender};
+use std::alloc::Global;
+use std::sync::Wait;
+use std::test::Fail;
+use std::thread::{Threads, join_mut};
+
+/// A shared sender with two seats, and a list with room for them.
+struct TwoSeats {
+    shared: Shared,
+    first: SenderSeat,
+    second: SenderSeat,
+    room: SenderSeats,
+}
+
+fn opened(alloc: Global) -> Result<TwoSeats, Fail>
+    ensures count { IfOk result (λ o. o.shared.seats ≡ 2) }
+    ensures first { IfOk result (λ o. o.first ≡ new_seat o.shared.of 0) }
+    ensures second { IfOk result (λ o. o.second ≡ new_seat o.shared.of 1) }
+    ensures room { IfOk result (λ o. (o.room.items ≡ []) × (2 ≤ o.room.spare)) }
+{
+    let sender = Sender::new(alloc)?;
+    let Ok((shared, mut room)) = Shared::new(alloc, sender, 2) else {
+        return Err("there is memory".into());
+    };
+    let Some(second) = room.pop() else {
+        unreachable!()
+    };
+    let Some(first) = room.pop() else {
+        unreachable!()
+    };
+    Ok(TwoSeats {
+        shared,
+        first,
+        second,
+        room,
+    })
+}
+
+fn closed(alloc: Global, opened: TwoSeats) -> Option<Sender>
+    requires count { opened.shared.seats ≡ 2 }
+    requires first { (opened.first.of ≡ opened.shared.of) × (opened.first.number ≡ 0) }
+    requires second { (opened.second.of ≡ opened.shared.of) × (opened.second.number ≡ 1) }
+    requires room { (opened.room.items ≡ []) × (2 ≤ opened.room.spare) }
+{
+    let TwoSeats {
+        shared,
+        first,
+        second,
+        mut room,
+    } = opened;
+    room.put(first);
+    room.put(second);
+    shared.close(alloc, room).ok()
+}
+
+/// A video packet: the smallest one with the element of the number.
+const VIDEO: [u8; 20] = [
+    0x90, 0x60, 0, 1, 0, 0, 0, 0, 0, 0, 0, 0xaa, 0xbe, 0xde, 0, 1, 0x31, 0, 0, 0,
+];
+
+/// An audio packet: the smallest one with the element of the number.
+const AUDIO: [u8; 20] = [
+    0x90, 0x6f, 0, 1, 0, 0, 0, 0, 0, 0, 0, 0xbb, 0xbe, 0xde, 0, 1, 0x31, 0, 0, 0,
+];
+
+/// Enqueues a packet, and answers whether it was accepted with this index at its moment.
+fn is_accepted<R: Wait>(
+    rt: &R,
+    alloc: Global,
+    shared: &Shared,
+    seat: &mut SenderSeat,
+    at: u64,
+    class: Class,
+    index: u32,
+) -> Result<bool, Fail>
+    requires { seat.old.of ≡ shared.now.of }
+    ensures { (seat.new.of ≡ seat.old.of) × (seat.new.number ≡ seat.old.number) }
+{
+    let bytes = match class {
+        Class::Audio => AUDIO.to_vec(alloc)?,
+        _ => VIDEO.to_vec(alloc)?,
+    };
+    if bytes.len() != 20 {
+        return Ok(false);
+    }
+    let Ok(reply) = shared.enqueue(rt, alloc, seat, at, class, Bytes::from_vec(bytes)) else {
+        return Ok(false);
+    };
+    Ok(match reply {
+        Reply::Accepted {
+            at: moment,
+            index: place,
+        } => moment == at && place == index,
+        _ => false,
+    })
+}
+
+/// How many calls of whose number stand in the journal.
+fn entries_of(sender: &Sender, caller: u32) -> u32 {
+    let mut count = 0;
+    for k in 0..sender.journal().len() {
+        if let Some(entry) = sender.journal().entry(k) {
+            if entry.caller == caller {
+                count += 1;
+            }
+        }
+    }
+    count
+}
+
+#[test]
+fn a_glance_sees_what_the_other_seat_did(rt: HostRuntime) -> Result<(), Fail> {
+    let alloc = rt.alloc();
+    let TwoSeats {
+        shared,
+        mut first,
+        mut second,
+        room,
+    } = opened(alloc)?;
+    assert!(rt; is_accepted(&rt, alloc, &shared, &mut first, 1000, Class::Video, 0)?);
+    let glance = shared.glance(&mut second);
+    assert_eq!(rt;
+        glance,
+        Glance {
+            calls: 1,
+            target: 300_000
+        }
+    );
+    assert!(rt; is_accepted(&rt, alloc, &shared, &mut first, 1100, Class::Audio, 1)?);
+    let note = shared.note(&mut first);
+    shared.hear(&mut second, note);
+    let glance = shared.glance(&mut second);
+    assert_eq!(rt;
+        glance,
+        Glance {
+            calls: 2,
+            target: 300_000
+        }
+    );
+    let Some(sender) = closed(
+        alloc,
+        TwoSeats {
+            shared,
+            first,
+            second,
+            room,
+        },
+    ) else {
+        return Err("it did not close".into());
+    };
+    assert_eq!(rt; sender.journal().len(), 2);
+    assert_eq!(rt; entries_of(&sender, 0), 2);
+    Ok(())
+}
+
+/// The moment of a pace, and how many packets it sent.
+fn paced(reply: &Reply) -> Option<(u64, u32)> {
+    match reply {
+        Reply::Paced { at, sent } => Some((*at, sent.len())),
+        _ => None,
+    }
+}
+
+// Three audio packets leave at once, each stamped.
+#[test]
+fn packets_leave_with_a_pace(rt: HostRuntime) -> Result<(), Fail> {
+    let alloc = rt.alloc();
+    let TwoSeats {
+        shared,
+        mut first,
+        mut second,
+        room: _room,
+    } = opened(alloc)?;
+    assert!(rt; is_accepted(&rt, alloc, &shared, &mut first, 0, Class::Audio, 0)?);
+    assert!(rt; is_accepted(&rt, alloc, &shared, &mut second, 0, Class::Audio, 1)?);
+    assert!(rt; is_accepted(&rt, alloc, &shared, &mut first, 0, Class::Audio, 2)?);
+    let Ok(answer) = shared.pace(&rt, alloc, &mut second, 1000) else {
+        return Err("there is memory".into());
+    };
+    assert_eq!(rt; answer.wires.len(), 3);
+    assert_eq!(rt; answer.wires.get(0), Some(AUDIO.as_slice()));
+    assert_eq!(rt; paced(&answer.reply), Some((1000, 3)));
+    Ok(())
+}
+
+/// How many paces each thread makes.
+const PACES: u32 = 500;
+
+fn pace_often<R: Wait>(rt: &R, alloc: Global, shared: &Shared, seat: &mut SenderSeat)
+    requires { seat.old.of ≡ shared.now.of }
+    ensures { (seat.new.of ≡ seat.old.of) × (seat.new.number ≡ seat.old.number) }
+{
+    for k in 0..PACES {
+        let _ = shared.pace(rt, alloc, seat, u64::from(k));
+    }
+}
+
+// Two threads call at the same time, each on a seat of its own.
+fn race<R: Threads + Wait + Sync>(
+    rt: &R,
+    alloc: Global,
+    shared: &Shared,
+    first: &mut SenderSeat,
+    second: &mut SenderSeat,
+)
+    requires first { first.old.of ≡ shared.now.of }
+    requires second { second.old.of ≡ shared.now.of }
+    ensures first { (first.new.of ≡ first.old.of) × (first.new.number ≡ first.old.number) }
+    ensures second { (second.new.of ≡ second.old.of) × (second.new.number ≡ second.old.number) }
+{
+    join_mut(
+        rt,
+        &mut || pace_often(rt, alloc, shared, first),
+        &mut || pace_often(rt, alloc, shared, second),
+    );
+}
+
+#[test]
+fn two_threads(rt: HostRuntime) -> Result<(), Fail> {
+    let alloc = rt.alloc();
+    let TwoSeats {
+        shared,
+        mut first,
+        mut second,
+        room,
+    } = opened(alloc)?;
+    race(&rt, alloc, &shared, &mut first, &mut second);
+    let Some(sender) = closed(
+        alloc,
+        TwoSeats {
+            shared,
+            first,
+            second,
+            room,
+        },
+    ) else {
+        return Err("it did not close".into());
+    };
+    assert_eq!(rt; entries_of(&sender, 0), PACES);
+    assert_eq!(rt; entries_of(&sender, 1), PACES);
+    Ok(())
+}

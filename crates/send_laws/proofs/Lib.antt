@@ -1,0 +1,4 @@
+pub mod Sending
+pub mod Ordering
+pub mod Numbering
+pub mod Bounding

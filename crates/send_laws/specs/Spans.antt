@@ -1,0 +1,37 @@
+-- The paced media of a span of a history, and what the rates in force come to over it. A span goes
+-- from the sends of its first entry to those of its last.
+use Rattle.std.specs.Prelude.{ℕ, ◌+◌, ◌-◌, ◌*◌, List, [], ◌∷◌, ◌++◌, fold, sum_by}
+use Rattle.pacer.specs.declared.sent.Sent.{Sent}
+use Rattle.pacer.specs.declared.sent.Kind.{Kind}
+use Rattle.pacer.specs.declared.sent.Kind.TheVariants as kind
+use Rattle.send_core.specs.declared.call.Entry.{Entry}
+use Rattle.send_core.specs.History.{later, now}
+use Rattle.send_core.specs.Levels.{rate}
+
+abbrev pub size_as : Kind → ℕ → ℕ
+size_as kind.Audio size = 0
+size_as kind.Media size = size
+size_as (kind.Probe id) size = 0
+size_as kind.Padding size = 0
+
+-- the bytes of a record of kind Media, and none of another
+abbrev pub media_size : Sent → ℕ
+media_size r = size_as r.kind r.size
+
+abbrev pub media_bytes : List Sent → ℕ
+media_bytes records = sum_by media_size records
+
+abbrev pub last_as : ℕ → Kind → ℕ → ℕ
+last_as last kind.Audio size = last
+last_as last kind.Media size = size
+last_as last (kind.Probe id) size = last
+last_as last kind.Padding size = last
+
+-- the size of the last record of kind Media, 0 where there is none
+abbrev pub last_media : List Sent → ℕ
+last_media records = fold (λ last (r : Sent). last_as last r.kind r.size) 0 records
+
+-- the rate in force times the time, from one entry to the next, from the last of the entries before
+abbrev pub integral : List Entry → List Entry → ℕ
+integral before [] = 0
+integral before (e ∷ rest) = rate before * (later (now before) e.call - now before) + integral (before ++ e ∷ []) rest

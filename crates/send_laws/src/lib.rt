@@ -1,0 +1,38 @@
+//! Laws of every legal history of a sender, whatever calls made it. Each is the contract of a
+//! function that does nothing.
+#![tactic(auto)]
+
+ghost use Rattle.std.specs.Prelude.{ℕ, ◌+◌, ◌*◌, ◌≤◌, List, [], ◌∷◌, ◌++◌};
+ghost use Rattle.send_core.specs.declared.call.Entry.{Entry};
+ghost use Rattle.send_core.specs.History.{tickets, sent, sent_by};
+ghost use Rattle.send_core.specs.Levels.{rate, window};
+ghost use Rattle.send_core.specs.Reply.{IsLegal};
+ghost use Rattle.send_laws.specs.Order.{AreInOrder, AreFresh, AreNumbered};
+ghost use Rattle.send_laws.specs.Spans.{media_bytes, last_media, integral};
+
+/// Law: the packets of a pace leave by priority and then by arrival: each record is of the packet
+/// that goes next among the accepted ones that no record so far is of, and of none only where none
+/// is left.
+pub fn packets_leave_in_order()
+    ensures { (before rest : List Entry) (e : Entry) → IsLegal (before ++ e ∷ rest) → AreInOrder (tickets before) (sent before) (sent_by e.reply) }
+{}
+
+/// Law: no packet leaves twice.
+pub fn no_packet_leaves_twice()
+    ensures { (history : List Entry) → IsLegal history → AreFresh [] (sent history) }
+{}
+
+/// Law: the records of all that was sent are numbered one after the other from 0 on, so no number
+/// is used twice.
+pub fn numbers_are_places()
+    ensures { (history : List Entry) → IsLegal history → AreNumbered 0 (sent history) }
+{}
+
+/// Law: over any span of entries, paced media is no more than what the rates in force come to from
+/// the first entry to the last, the rate in force before the first entry times the window, and the
+/// last packet (in micro-bits; 8,000,000 a byte).
+pub fn media_is_bounded()
+    ensures { (before rest : List Entry) (first : Entry) → IsLegal (before ++ first ∷ rest)
+        → 8000000 * media_bytes (sent (first ∷ rest))
+        ≤ integral (before ++ first ∷ []) rest + rate before * window before + 8000000 * last_media (sent (first ∷ rest)) }
+{}

@@ -2,3 +2,4 @@ pub mod Sending
 pub mod Ordering
 pub mod Numbering
 pub mod Bounding
+pub mod Padding

@@ -5,10 +5,10 @@
 ghost use Rattle.std.specs.Prelude.{ℕ, ◌+◌, ◌*◌, ◌≤◌, List, [], ◌∷◌, ◌++◌};
 ghost use Rattle.send_core.specs.declared.call.Entry.{Entry};
 ghost use Rattle.send_core.specs.History.{tickets, sent, sent_by};
-ghost use Rattle.send_core.specs.Levels.{rate, window};
+ghost use Rattle.send_core.specs.Levels.{rate, window, padding_rate};
 ghost use Rattle.send_core.specs.Reply.{IsLegal};
 ghost use Rattle.send_laws.specs.Order.{AreInOrder, AreFresh, AreNumbered};
-ghost use Rattle.send_laws.specs.Spans.{media_bytes, last_media, integral};
+ghost use Rattle.send_laws.specs.Spans.{media_bytes, last_media, integral, padding_bytes, last_padding, padding_integral};
 
 /// Law: the packets of a pace leave by priority and then by arrival: each record is of the packet
 /// that goes next among the accepted ones that no record so far is of, and of none only where none
@@ -35,4 +35,13 @@ pub fn media_is_bounded()
     ensures { (before rest : List Entry) (first : Entry) → IsLegal (before ++ first ∷ rest)
         → 8000000 * media_bytes (sent (first ∷ rest))
         ≤ integral (before ++ first ∷ []) rest + rate before * window before + 8000000 * last_media (sent (first ∷ rest)) }
+{}
+
+/// Law: over any span of entries, padding is no more than what the padding rates come to from the
+/// first entry to the last, the padding rate before the first entry times the window, and the last
+/// padding packet (in micro-bits; 8,000,000 a byte).
+pub fn padding_is_bounded()
+    ensures { (before rest : List Entry) (first : Entry) → IsLegal (before ++ first ∷ rest)
+        → 8000000 * padding_bytes (sent (first ∷ rest))
+        ≤ padding_integral (before ++ first ∷ []) rest + padding_rate before * window before + 8000000 * last_padding (sent (first ∷ rest)) }
 {}

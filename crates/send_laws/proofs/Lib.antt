@@ -3,3 +3,4 @@ pub mod Ordering
 pub mod Numbering
 pub mod Bounding
 pub mod Padding
+pub mod Crediting

@@ -2,3 +2,5 @@ pub mod Sending
 pub mod Ordering
 pub mod Numbering
 pub mod Bounding
+pub mod Padding
+pub mod Crediting

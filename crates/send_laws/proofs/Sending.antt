@@ -54,7 +54,7 @@ slice_get-seam : (before : List Entry) (e : Entry) (rest : List Entry) → slice
 slice_get-seam [] e rest = refl
 slice_get-seam (x ∷ xs) e rest = slice_get-seam xs e rest
 
-legal-reply : (before rest : List Entry) (e : Entry) → IsLegal (before ++ e ∷ rest) → e.reply ≡ reply before e.call
+pub legal-reply : (before rest : List Entry) (e : Entry) → IsLegal (before ++ e ∷ rest) → e.reply ≡ reply before e.call
 legal-reply before rest e legal =
     subst (λ (t : List Entry). e.reply ≡ reply t e.call) (take-append_seam before (e ∷ rest))
     (legal.each (length before) e (slice_get-seam before e rest))

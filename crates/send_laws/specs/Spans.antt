@@ -6,7 +6,7 @@ use Rattle.pacer.specs.declared.sent.Kind.{Kind}
 use Rattle.pacer.specs.declared.sent.Kind.TheVariants as kind
 use Rattle.send_core.specs.declared.call.Entry.{Entry}
 use Rattle.send_core.specs.History.{later, now}
-use Rattle.send_core.specs.Levels.{rate}
+use Rattle.send_core.specs.Levels.{rate, padding_rate}
 
 abbrev pub size_as : Kind → ℕ → ℕ
 size_as kind.Audio size = 0
@@ -35,3 +35,34 @@ last_media records = fold (λ last (r : Sent). last_as last r.kind r.size) 0 rec
 abbrev pub integral : List Entry → List Entry → ℕ
 integral before [] = 0
 integral before (e ∷ rest) = rate before * (later (now before) e.call - now before) + integral (before ++ e ∷ []) rest
+
+-- ---- padding
+
+abbrev pub padding_as : Kind → ℕ → ℕ
+padding_as kind.Audio size = 0
+padding_as kind.Media size = 0
+padding_as (kind.Probe id) size = 0
+padding_as kind.Padding size = size
+
+-- the bytes of a record of kind Padding, and none of another
+abbrev pub padding_size : Sent → ℕ
+padding_size r = padding_as r.kind r.size
+
+abbrev pub padding_bytes : List Sent → ℕ
+padding_bytes records = sum_by padding_size records
+
+abbrev pub padding_last_as : ℕ → Kind → ℕ → ℕ
+padding_last_as last kind.Audio size = last
+padding_last_as last kind.Media size = last
+padding_last_as last (kind.Probe id) size = last
+padding_last_as last kind.Padding size = size
+
+-- the size of the last record of kind Padding, 0 where there is none
+abbrev pub last_padding : List Sent → ℕ
+last_padding records = fold (λ last (r : Sent). padding_last_as last r.kind r.size) 0 records
+
+-- the padding rate times the time, from one entry to the next, from the last of the entries before
+abbrev pub padding_integral : List Entry → List Entry → ℕ
+padding_integral before [] = 0
+padding_integral before (e ∷ rest) =
+    padding_rate before * (later (now before) e.call - now before) + padding_integral (before ++ e ∷ []) rest

@@ -2,13 +2,19 @@
 //! function that does nothing.
 #![tactic(auto)]
 
-ghost use Rattle.std.specs.Prelude.{ℕ, ◌+◌, ◌*◌, ◌≤◌, List, [], ◌∷◌, ◌++◌};
+ghost use Rattle.std.specs.Prelude.{ℕ, ◌+◌, ◌*◌, ◌≤◌, ◌↔◌, List, [], ◌∷◌, ◌++◌, map, Contains};
+ghost use Rattle.gcc_units.specs.declared.limits.TheConstants.{GREATEST_MOMENT};
+ghost use Rattle.twcc_report.specs.Spelling.{Feedback};
+ghost use Rattle.sent_history.specs.Crediting.{account};
+ghost use Rattle.sent_history.specs.Balance.{IsOutstanding, IsNamedReceived};
 ghost use Rattle.send_core.specs.declared.call.Entry.{Entry};
-ghost use Rattle.send_core.specs.History.{tickets, sent, sent_by};
-ghost use Rattle.send_core.specs.Levels.{rate, window};
+ghost use Rattle.send_core.specs.History.{at_of, tickets, sent, sent_by};
+ghost use Rattle.send_core.specs.Levels.{rate, window, padding_rate};
 ghost use Rattle.send_core.specs.Reply.{IsLegal};
+ghost use Rattle.send_core.specs.Reports.{events};
+ghost use Rattle.send_laws.specs.Credits.{Brings, credits, number_of};
 ghost use Rattle.send_laws.specs.Order.{AreInOrder, AreFresh, AreNumbered};
-ghost use Rattle.send_laws.specs.Spans.{media_bytes, last_media, integral};
+ghost use Rattle.send_laws.specs.Spans.{media_bytes, last_media, integral, padding_bytes, last_padding, padding_integral};
 
 /// Law: the packets of a pace leave by priority and then by arrival: each record is of the packet
 /// that goes next among the accepted ones that no record so far is of, and of none only where none
@@ -35,4 +41,22 @@ pub fn media_is_bounded()
     ensures { (before rest : List Entry) (first : Entry) → IsLegal (before ++ first ∷ rest)
         → 8000000 * media_bytes (sent (first ∷ rest))
         ≤ integral (before ++ first ∷ []) rest + rate before * window before + 8000000 * last_media (sent (first ∷ rest)) }
+{}
+
+/// Law: over any span of entries, padding is no more than what the padding rates come to from the
+/// first entry to the last, the padding rate before the first entry times the window, and the last
+/// padding packet (in micro-bits; 8,000,000 a byte).
+pub fn padding_is_bounded()
+    ensures { (before rest : List Entry) (first : Entry) → IsLegal (before ++ first ∷ rest)
+        → 8000000 * padding_bytes (sent (first ∷ rest))
+        ≤ padding_integral (before ++ first ∷ []) rest + padding_rate before * window before + 8000000 * last_padding (sent (first ∷ rest)) }
+{}
+
+/// Law: a report that is served in time credits exactly the packets that are outstanding by all that
+/// was sent and reported before, and that it names received.
+pub fn reports_credit_exactly()
+    ensures { (before rest : List Entry) (e : Entry) (report : Feedback) (n : ℕ) → IsLegal (before ++ e ∷ rest)
+        → Brings e.call report → at_of e.call ≤ GREATEST_MOMENT
+        → Contains (map number_of (credits e.reply)) n
+        ↔ (IsOutstanding (account (events before)) n × IsNamedReceived (account (events before)) report n) }
 {}

@@ -4,3 +4,4 @@ pub mod Numbering
 pub mod Bounding
 pub mod Padding
 pub mod Crediting
+pub mod Counting

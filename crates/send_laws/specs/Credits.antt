@@ -1,11 +1,12 @@
 -- What the reply to a report credits.
-use Rattle.std.specs.Prelude.{◌≡◌, ℕ, List, [], Ok}
+use Rattle.std.specs.Prelude.{◌≡◌, ◌<◌, ℕ, List, [], All, Ok}
 use Rattle.gcc_units.specs.declared.shared_types.Credit.{Credit}
 use Rattle.twcc_report.specs.Spelling.{Feedback}
 use Rattle.twcc_report.specs.Reading.{read_of}
 use Rattle.send_core.specs.declared.call.Call.{Call}
 use Rattle.send_core.specs.declared.call.Call.TheVariants.{Enqueue, Pace, Report, Configure}
 use Rattle.send_core.specs.declared.call.Reply.{Reply}
+use Rattle.send_core.specs.declared.call.Entry.{Entry}
 use Rattle.send_core.specs.declared.call.Reply.TheVariants.{Accepted, Paced, Credited, Configured, Refused}
 
 -- the call hands in the bytes of this report
@@ -24,3 +25,16 @@ credits (Refused moment cause) = []
 
 abbrev pub number_of : Credit → ℕ
 number_of c = c.number
+
+-- the bytes of a report are bytes
+abbrev pub IsByte : ℕ → Type 0
+IsByte b = b < 256
+
+abbrev pub BringsBytes : Call → Type 0
+BringsBytes (Enqueue at class wire) = Unit {0}
+BringsBytes (Pace at) = Unit {0}
+BringsBytes (Report at bytes) = All IsByte bytes.items
+BringsBytes (Configure at change) = Unit {0}
+
+abbrev pub HasBytes : Entry → Type 0
+HasBytes e = BringsBytes e.call

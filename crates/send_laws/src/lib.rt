@@ -2,17 +2,17 @@
 //! function that does nothing.
 #![tactic(auto)]
 
-ghost use Rattle.std.specs.Prelude.{ℕ, ◌+◌, ◌*◌, ◌≤◌, ◌↔◌, List, [], ◌∷◌, ◌++◌, map, Contains};
+ghost use Rattle.std.specs.Prelude.{◌≡◌, ◌≢◌, ℕ, ◌+◌, ◌*◌, ◌≤◌, ◌↔◌, List, [], ◌∷◌, ◌++◌, length, map, All, AllPairs, Contains};
 ghost use Rattle.gcc_units.specs.declared.limits.TheConstants.{GREATEST_MOMENT};
 ghost use Rattle.twcc_report.specs.Spelling.{Feedback};
-ghost use Rattle.sent_history.specs.Crediting.{account};
-ghost use Rattle.sent_history.specs.Balance.{IsOutstanding, IsNamedReceived};
+ghost use Rattle.sent_history.specs.Crediting.{account, outstanding};
+ghost use Rattle.sent_history.specs.Balance.{IsOutstanding, IsNamedReceived, expired};
 ghost use Rattle.send_core.specs.declared.call.Entry.{Entry};
 ghost use Rattle.send_core.specs.History.{at_of, tickets, sent, sent_by};
 ghost use Rattle.send_core.specs.Levels.{rate, window, padding_rate};
 ghost use Rattle.send_core.specs.Reply.{IsLegal};
 ghost use Rattle.send_core.specs.Reports.{events};
-ghost use Rattle.send_laws.specs.Credits.{Brings, credits, number_of};
+ghost use Rattle.send_laws.specs.Credits.{Brings, credits, number_of, HasBytes};
 ghost use Rattle.send_laws.specs.Order.{AreInOrder, AreFresh, AreNumbered};
 ghost use Rattle.send_laws.specs.Spans.{media_bytes, last_media, integral, padding_bytes, last_padding, padding_integral};
 
@@ -59,4 +59,17 @@ pub fn reports_credit_exactly()
         → Brings e.call report → at_of e.call ≤ GREATEST_MOMENT
         → Contains (map number_of (credits e.reply)) n
         ↔ (IsOutstanding (account (events before)) n × IsNamedReceived (account (events before)) report n) }
+{}
+
+/// Law: over a whole history no number is credited twice. A history's reports are lists of bytes, as
+/// all that callers hand in are.
+pub fn no_number_is_credited_twice()
+    ensures { (history : List Entry) → All HasBytes history → AllPairs (λ (m n : ℕ). m ≢ n) (account (events history)).credited }
+{}
+
+/// Law: the packets that were sent are those that were credited, those that are outstanding and those
+/// that expired.
+pub fn packets_balance()
+    ensures { (history : List Entry) → All HasBytes history
+        → length (sent history) ≡ length (account (events history)).credited + outstanding (events history) + expired (events history) }
 {}

@@ -1,9 +1,9 @@
-//! The packets that leave with the smallest run, and a journal that is full.
+//! The packets that leave with the smallest run, a journal that is full, and numbers above 65,535.
 
 ghost use Rattle.std.specs.Prelude.{◌<◌, ◌^◌, length};
 
 use crate::{Answer, ApplyFault, Call, Reply, Sender};
-use gcc_units::{Bytes, Class, MOST_ENTRIES, NoMemory};
+use gcc_units::{Bytes, Class, MOST_ENTRIES, MOST_SENDS, NoMemory};
 use std::alloc::Global;
 use std::test::Fail;
 
@@ -76,5 +76,86 @@ fn journal_fills(rt: HostRuntime) -> Result<(), Fail> {
         Err((ApplyFault::JournalFull, Call::Pace { at })) => assert_eq!(rt; at, 7),
         _ => assert!(rt; false),
     }
+    Ok(())
+}
+
+/// So many bursts that one pace can send whole; so many that their packets have all low numbers.
+const BURSTS: u32 = 1_024;
+
+/// A report of number 0 alone.
+const STATUS_OF_ZERO: [u8; 24] = [
+    0x8f, 0xcd, 0, 5, 0, 0, 0, 1, 0, 0, 0, 2, 0, 0, 0, 1, 0, 0, 1, 0, 0x20, 1, 4, 0,
+];
+
+/// A report of numbers 65,535 and 0.
+const STATUSES_OVER_THE_WRAP: [u8; 24] = [
+    0x8f, 0xcd, 0, 5, 0, 0, 0, 1, 0, 0, 0, 2, 0xff, 0xff, 0, 2, 0, 0, 1, 0, 0x20, 2, 4, 4,
+];
+
+// Enqueues so many audio packets, and sends them with one pace.
+fn send_burst(alloc: Global, sender: &mut Sender, packets: u32) -> Result<(), Fail> {
+    for _ in 0..packets {
+        let audio = Call::Enqueue {
+            at: 1_000,
+            class: Class::Audio,
+            wire: packet(alloc, &AUDIO)?,
+        };
+        served(sender.apply(alloc, 0, audio))?;
+    }
+    served(sender.apply(alloc, 0, Call::Pace { at: 1_000 }))?;
+    Ok(())
+}
+
+/// A sender that sent 65,537 packets: the last one has low number 0 again.
+fn past_the_wrap(alloc: Global) -> Result<Sender, Fail> {
+    let mut sender = Sender::new(alloc)?;
+    for _ in 0..BURSTS {
+        send_burst(alloc, &mut sender, MOST_SENDS)?;
+    }
+    send_burst(alloc, &mut sender, 1)?;
+    Ok(sender)
+}
+
+/// The numbers and arrivals that a report credits.
+fn credited(alloc: Global, sender: &mut Sender, report: &[u8]) -> Result<Vec<(u64, i64)>, Fail>
+    requires { length report.now < 2 ^ 32 }
+{
+    let report = Call::Report {
+        at: 50_000,
+        bytes: packet(alloc, report)?,
+    };
+    let answer = served(sender.apply(alloc, 0, report))?;
+    match &answer.reply {
+        Reply::Credited { judged, .. } => {
+            let credits = judged
+                .received
+                .as_slice()
+                .iter()
+                .map(|credit| (credit.number, credit.arrival))
+                .collect(alloc)?;
+            Ok(credits)
+        }
+        _ => Err("the report is judged".into()),
+    }
+}
+
+#[test]
+fn number_wrap(rt: HostRuntime) -> Result<(), Fail> {
+    let alloc = rt.alloc();
+    let mut sender = past_the_wrap(alloc)?;
+    let credits = credited(alloc, &mut sender, &STATUS_OF_ZERO)?;
+    assert_eq!(rt; credits.as_slice(), [(65_536, 260)].as_slice());
+    Ok(())
+}
+
+#[test]
+fn number_wrap_within_a_report(rt: HostRuntime) -> Result<(), Fail> {
+    let alloc = rt.alloc();
+    let mut sender = past_the_wrap(alloc)?;
+    let credits = credited(alloc, &mut sender, &STATUSES_OVER_THE_WRAP)?;
+    assert_eq!(rt;
+        credits.as_slice(),
+        [(65_535, 260), (65_536, 264)].as_slice()
+    );
     Ok(())
 }

@@ -2,8 +2,8 @@ ghost use Rattle.std.specs.Prelude.{◌≡◌, ◌<◌, ◌≤◌, [], length, I
 ghost use Rattle.turn_lock.specs.Seats.{new_seat};
 
 use crate::{Glance, SenderSeat, SenderSeats, Shared};
-use gcc_units::{Bytes, Class};
-use send_core::{Reply, Sender};
+use gcc_units::{Bytes, Class, Sequence};
+use send_core::{Change, Rates, Reply, Sender};
 use std::alloc::Global;
 use std::sync::Wait;
 use std::test::Fail;
@@ -185,6 +185,109 @@ fn packets_leave_with_a_pace(rt: HostRuntime) -> Result<(), Fail> {
     assert_eq!(rt; answer.wires.len(), 3);
     assert_eq!(rt; answer.wires.get(0), Some(AUDIO.as_slice()));
     assert_eq!(rt; paced(&answer.reply), Some((1000, 3)));
+    Ok(())
+}
+
+/// A report on the first three packets: all came.
+const REPORT: [u8; 28] = [
+    0x8f, 0xcd, 0, 6, 0, 0, 0, 1, 0, 0, 0, 2, 0, 0, 0, 3, 0, 0, 1, 0, 0x20, 3, 4, 8, 0, 0, 0, 0,
+];
+
+/// The numbers and arrivals that a reply credits, in their order, of three at most.
+fn credited(reply: &Reply) -> Option<[(u64, i64); 3]> {
+    match reply {
+        Reply::Credited { judged, .. } => match judged.received.as_slice() {
+            [a, b, c] => Some([
+                (a.number, a.arrival),
+                (b.number, b.arrival),
+                (c.number, c.arrival),
+            ]),
+            _ => None,
+        },
+        _ => None,
+    }
+}
+
+fn report_bytes(alloc: Global) -> Result<Bytes, Fail> {
+    let mut bytes = Bytes::new(alloc);
+    for byte in REPORT {
+        bytes.push(byte).ok().ok_or("there is room")?;
+    }
+    Ok(bytes)
+}
+
+#[test]
+fn a_report_credits_what_left(rt: HostRuntime) -> Result<(), Fail> {
+    let alloc = rt.alloc();
+    let TwoSeats {
+        shared,
+        mut first,
+        mut second,
+        room: _room,
+    } = opened(alloc)?;
+    assert!(rt; is_accepted(&rt, alloc, &shared, &mut first, 0, Class::Audio, 0)?);
+    assert!(rt; is_accepted(&rt, alloc, &shared, &mut first, 0, Class::Audio, 1)?);
+    assert!(rt; is_accepted(&rt, alloc, &shared, &mut first, 0, Class::Audio, 2)?);
+    assert!(rt; shared.pace(&rt, alloc, &mut first, 1000).is_ok());
+    let Ok(reply) = shared.report(&rt, alloc, &mut second, 50_000, report_bytes(alloc)?) else {
+        return Err("there is memory".into());
+    };
+    assert_eq!(rt; credited(&reply), Some([(0, 260), (1, 268), (2, 268)]));
+    Ok(())
+}
+
+/// The change of nothing but the greatest estimate.
+fn lowered(alloc: Global, max: u64) -> Change {
+    Change {
+        streams: Sequence::new(alloc),
+        removed: Sequence::new(alloc),
+        start: None,
+        min: None,
+        max: Some(max),
+        pacing_percent: None,
+        window: None,
+        padding_rate: None,
+        paced_audio: None,
+        extension_id: None,
+        probe: None,
+    }
+}
+
+fn rates(reply: &Reply) -> Option<Rates> {
+    match reply {
+        Reply::Configured { rates, .. } => Some(*rates),
+        _ => None,
+    }
+}
+
+#[test]
+fn a_change_is_seen_by_a_glance(rt: HostRuntime) -> Result<(), Fail> {
+    let alloc = rt.alloc();
+    let TwoSeats {
+        shared,
+        mut first,
+        mut second,
+        room: _room,
+    } = opened(alloc)?;
+    let Ok(reply) = shared.configure(&rt, alloc, &mut first, 0, lowered(alloc, 200_000)) else {
+        return Err("there is memory".into());
+    };
+    assert_eq!(rt;
+        rates(&reply),
+        Some(Rates {
+            delay: 200_000,
+            loss: 200_000,
+            target: 200_000,
+            pacing: 500_000
+        })
+    );
+    assert_eq!(rt;
+        shared.glance(&mut second),
+        Glance {
+            calls: 1,
+            target: 200_000
+        }
+    );
     Ok(())
 }
 

@@ -117,7 +117,7 @@ few-by call (reply_kind.Paced moment records) all = rw (no-reports moment record
 few-by (call_kind.Report at bytes) (reply_kind.Credited moment judged signal m acked rates shares) all = few-read (read_of bytes.items) (reads_few-bytes bytes.items all)
 few-by call given all = All-nil HasFewStatuses
 
-few-reports : (history : List Entry) → All HasBytes history → All HasFewStatuses (reports (events history))
+pub few-reports : (history : List Entry) → All HasBytes history → All HasFewStatuses (reports (events history))
 few-reports [] all = All-nil HasFewStatuses
 few-reports (e ∷ rest) all =
     rw (flat_map-append report_in (events_by e.call e.reply) (events rest))
@@ -141,7 +141,7 @@ packets-by call (reply_kind.Accepted moment index) = refl
 packets-by call (reply_kind.Configured moment rates shares) = refl
 packets-by call (reply_kind.Refused moment cause) = refl
 
-packets-sent : (history : List Entry) → length (packets (events history)) ≡ length (sent history)
+pub packets-sent : (history : List Entry) → length (packets (events history)) ≡ length (sent history)
 packets-sent [] = refl
 packets-sent (e ∷ rest) =
     rw (flat_map-append packet_in (events_by e.call e.reply) (events rest))

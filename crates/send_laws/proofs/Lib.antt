@@ -5,3 +5,13 @@ pub mod Bounding
 pub mod Padding
 pub mod Crediting
 pub mod Counting
+pub mod Spanning
+pub mod Summing
+pub mod Windows
+pub mod Remaining
+pub mod CreditsWalked
+pub mod Probing
+pub mod ClusterDeeds
+pub mod Rising
+pub mod Finding
+pub mod Filling

@@ -1,5 +1,6 @@
 -- What the reply to a report credits.
-use Rattle.std.specs.Prelude.{◌≡◌, ◌<◌, ℕ, List, [], All, Ok}
+use Rattle.std.specs.Prelude.{◌≡◌, ◌<◌, ℕ, Bool, nat_le, List, [], map, All, Ok}
+use Rattle.std.specs.List.{flat_map}
 use Rattle.gcc_units.specs.declared.shared_types.Credit.{Credit}
 use Rattle.twcc_report.specs.Spelling.{Feedback}
 use Rattle.twcc_report.specs.Reading.{read_of}
@@ -25,6 +26,14 @@ credits (Refused moment cause) = []
 
 abbrev pub number_of : Credit → ℕ
 number_of c = c.number
+
+-- the numbers that the replies of a history credit, in their order
+abbrev pub credited_numbers : List Entry → List ℕ
+credited_numbers history = flat_map (λ (e : Entry). map number_of (credits e.reply)) history
+
+-- a credit of this number, or of a later one
+abbrev pub is_from : ℕ → Credit → Bool
+is_from first c = nat_le first c.number
 
 -- the bytes of a report are bytes
 abbrev pub IsByte : ℕ → Type 0

@@ -1,12 +1,18 @@
 -- The paced media of a span of a history, and what the rates in force come to over it. A span goes
 -- from the sends of its first entry to those of its last.
-use Rattle.std.specs.Prelude.{ℕ, ◌+◌, ◌-◌, ◌*◌, List, [], ◌∷◌, ◌++◌, fold, sum_by}
+use Rattle.std.specs.Prelude.{ℕ, ◌+◌, ◌-◌, ◌*◌, List, [], ◌∷◌, ◌++◌, take, drop, fold, sum_by}
 use Rattle.pacer.specs.declared.sent.Sent.{Sent}
 use Rattle.pacer.specs.declared.sent.Kind.{Kind}
 use Rattle.pacer.specs.declared.sent.Kind.TheVariants as kind
 use Rattle.send_core.specs.declared.call.Entry.{Entry}
 use Rattle.send_core.specs.History.{later, now}
 use Rattle.send_core.specs.Levels.{rate, padding_rate}
+
+-- the entries from i to j, both counted
+abbrev pub span : ℕ → ℕ → List Entry → List Entry
+span i j history = drop i (take (j + 1) history)
+
+-- ---- media
 
 abbrev pub size_as : Kind → ℕ → ℕ
 size_as kind.Audio size = 0

@@ -1,75 +1,26 @@
-//! Laws of every legal history of a sender, whatever calls made it. Each is the contract of a
-//! function that does nothing.
+//! Laws of every legal history of a sender, and calls that answer their numbers for a sender's own
+//! journal.
 #![tactic(auto)]
 
-ghost use Rattle.std.specs.Prelude.{◌≡◌, ◌≢◌, ℕ, ◌+◌, ◌*◌, ◌≤◌, ◌↔◌, List, [], ◌∷◌, ◌++◌, length, map, All, AllPairs, Contains};
-ghost use Rattle.gcc_units.specs.declared.limits.TheConstants.{GREATEST_MOMENT};
-ghost use Rattle.twcc_report.specs.Spelling.{Feedback};
-ghost use Rattle.sent_history.specs.Crediting.{account, outstanding};
-ghost use Rattle.sent_history.specs.Balance.{IsOutstanding, IsNamedReceived, expired};
-ghost use Rattle.send_core.specs.declared.call.Entry.{Entry};
-ghost use Rattle.send_core.specs.History.{at_of, tickets, sent, sent_by};
-ghost use Rattle.send_core.specs.Levels.{rate, window, padding_rate};
-ghost use Rattle.send_core.specs.Reply.{IsLegal};
-ghost use Rattle.send_core.specs.Reports.{events};
-ghost use Rattle.send_laws.specs.Credits.{Brings, credits, number_of, HasBytes};
-ghost use Rattle.send_laws.specs.Order.{AreInOrder, AreFresh, AreNumbered};
-ghost use Rattle.send_laws.specs.Spans.{media_bytes, last_media, integral, padding_bytes, last_padding, padding_integral};
+mod budget;
+mod bytes;
+mod counts;
+mod keeping;
+mod laws;
+mod plans;
+mod probes;
+mod reading;
+mod spans;
 
-/// Law: the packets of a pace leave by priority and then by arrival: each record is of the packet
-/// that goes next among the accepted ones that no record so far is of, and of none only where none
-/// is left.
-pub fn packets_leave_in_order()
-    ensures { (before rest : List Entry) (e : Entry) → IsLegal (before ++ e ∷ rest) → AreInOrder (tickets before) (sent before) (sent_by e.reply) }
-{}
+pub use counts::{PacketCounts, balance};
+pub use keeping::keeps_laws;
+pub use laws::{
+    media_is_bounded, media_level_is_least, no_number_is_credited_twice, no_packet_leaves_twice,
+    numbers_are_places, packets_balance, packets_leave_in_order, padding_is_bounded,
+    probes_are_bounded, reports_credit_exactly,
+};
+pub use probes::{ClusterSpan, span_cluster};
+pub use spans::{Span, span_media, span_padding};
 
-/// Law: no packet leaves twice.
-pub fn no_packet_leaves_twice()
-    ensures { (history : List Entry) → IsLegal history → AreFresh [] (sent history) }
-{}
-
-/// Law: the records of all that was sent are numbered one after the other from 0 on, so no number
-/// is used twice.
-pub fn numbers_are_places()
-    ensures { (history : List Entry) → IsLegal history → AreNumbered 0 (sent history) }
-{}
-
-/// Law: over any span of entries, paced media is no more than what the rates in force come to from
-/// the first entry to the last, the rate in force before the first entry times the window, and the
-/// last packet (in micro-bits; 8,000,000 a byte).
-pub fn media_is_bounded()
-    ensures { (before rest : List Entry) (first : Entry) → IsLegal (before ++ first ∷ rest)
-        → 8000000 * media_bytes (sent (first ∷ rest))
-        ≤ integral (before ++ first ∷ []) rest + rate before * window before + 8000000 * last_media (sent (first ∷ rest)) }
-{}
-
-/// Law: over any span of entries, padding is no more than what the padding rates come to from the
-/// first entry to the last, the padding rate before the first entry times the window, and the last
-/// padding packet (in micro-bits; 8,000,000 a byte).
-pub fn padding_is_bounded()
-    ensures { (before rest : List Entry) (first : Entry) → IsLegal (before ++ first ∷ rest)
-        → 8000000 * padding_bytes (sent (first ∷ rest))
-        ≤ padding_integral (before ++ first ∷ []) rest + padding_rate before * window before + 8000000 * last_padding (sent (first ∷ rest)) }
-{}
-
-/// Law: a report that is served in time credits exactly the packets that are outstanding by all that
-/// was sent and reported before, and that it names received.
-pub fn reports_credit_exactly()
-    ensures { (before rest : List Entry) (e : Entry) (report : Feedback) (n : ℕ) → IsLegal (before ++ e ∷ rest)
-        → Brings e.call report → at_of e.call ≤ GREATEST_MOMENT
-        → Contains (map number_of (credits e.reply)) n
-        ↔ (IsOutstanding (account (events before)) n × IsNamedReceived (account (events before)) report n) }
-{}
-
-/// Law: over a whole history no number is credited twice. A history's reports are lists of bytes, as
-/// all that callers hand in are.
-pub fn no_number_is_credited_twice()
-    ensures { (history : List Entry) → All HasBytes history → AllPairs (λ (m n : ℕ). m ≢ n) (account (events history)).credited }
-{}
-
-/// Law: the packets that were sent are those that were credited, those that are outstanding and those
-/// that expired.
-pub fn packets_balance()
-    ensures { (history : List Entry) → All HasBytes history
-        → length (sent history) ≡ length (account (events history)).credited + outstanding (events history) + expired (events history) }
-{}
+#[cfg(test)]
+mod tests;

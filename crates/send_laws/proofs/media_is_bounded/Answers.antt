@@ -1,5 +1,0 @@
-use Rattle.send_laws.proofs.Bounding.{media-bounded}
-use Rattle.send_laws.proofs.media_is_bounded.Goals as goal
-
-pub returns : goal.returns
-returns c = media-bounded

@@ -1,5 +1,0 @@
-use Rattle.send_laws.proofs.Counting.{none-twice}
-use Rattle.send_laws.proofs.no_number_is_credited_twice.Goals as goal
-
-pub returns : goal.returns
-returns c = none-twice

@@ -1,5 +1,0 @@
-use Rattle.send_laws.proofs.Ordering.{all-fresh}
-use Rattle.send_laws.proofs.no_packet_leaves_twice.Goals as goal
-
-pub returns : goal.returns
-returns c = all-fresh

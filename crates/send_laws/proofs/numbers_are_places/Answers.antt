@@ -1,5 +1,0 @@
-use Rattle.send_laws.proofs.Numbering.{all-numbered}
-use Rattle.send_laws.proofs.numbers_are_places.Goals as goal
-
-pub returns : goal.returns
-returns c = all-numbered

@@ -1,5 +1,0 @@
-use Rattle.send_laws.proofs.Counting.{balanced}
-use Rattle.send_laws.proofs.packets_balance.Goals as goal
-
-pub returns : goal.returns
-returns c = balanced

@@ -1,5 +1,0 @@
-use Rattle.send_laws.proofs.Padding.{padding-bounded}
-use Rattle.send_laws.proofs.padding_is_bounded.Goals as goal
-
-pub returns : goal.returns
-returns c = padding-bounded

@@ -1,5 +1,0 @@
-use Rattle.send_laws.proofs.Crediting.{credited-exactly}
-use Rattle.send_laws.proofs.reports_credit_exactly.Goals as goal
-
-pub returns : goal.returns
-returns c = credited-exactly

@@ -1,0 +1,13 @@
+use Rattle.std.proofs.Common.{arith}
+use Rattle.send_laws.proofs.Summing.{few-at, counted-more}
+use Rattle.send_laws.proofs.spans.counted_over.Goals as goal
+
+pub with_reply-counted-requires : goal.with_reply-counted-requires
+with_reply-counted-requires c =
+    omega (arith, c.loop-k.invariant.few, few-at c.args.journal.now.items c.loop-k.k c.entry_at.result.now c.entry_at.ensures c.requires.legal)
+
+pub loop-k-preserved : goal.loop-k-preserved
+loop-k-preserved c =
+    counted-more c.args.budget c.args.journal.now.items c.args.i c.loop-k.k c.loop-k.counted.bytes c.loop-k.counted.last
+    c.with_reply-counted.result.bytes c.with_reply-counted.result.last c.entry_at.result.now c.loop-k.auto.k c.entry_at.ensures c.requires.legal
+    c.loop-k.invariant c.with_reply-counted.ensures.bytes c.with_reply-counted.ensures.last c.with_reply-counted.ensures.few

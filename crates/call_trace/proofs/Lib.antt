@@ -21,3 +21,9 @@ pub mod Present
 pub mod Compact
 pub mod ChangeText
 pub mod Spelling
+pub mod Arriving
+pub mod Asking
+pub mod Framing
+pub mod MadeSends
+pub mod Steadiness
+pub mod MadeLines

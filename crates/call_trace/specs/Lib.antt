@@ -9,3 +9,7 @@ pub mod Written
 pub mod Merge
 pub mod Ordered
 pub mod Faults
+pub mod MadePackets
+pub mod MadeReports
+pub mod Making
+pub mod Makers

@@ -12,6 +12,7 @@ ghost use Rattle.call_trace.specs.Settings.{SpellsChange, IsNoChange};
 ghost use Rattle.call_trace.specs.Grammar.{IsTrace};
 ghost use Rattle.call_trace.specs.Merge.{Merges};
 ghost use Rattle.call_trace.specs.Ordered.{ordered};
+ghost use Rattle.call_trace.specs.Making.{made};
 
 /// Bytes are cut into lines at their line feeds, in one way.
 pub fn lines_are_cut_at_line_feeds()
@@ -40,4 +41,9 @@ pub fn lines_in_order_merge()
 /// That history is legal: each reply is the one that the entries before it determine.
 pub fn lines_in_order_are_legal()
     ensures { (lines : List Line) → length lines ≤ MOST_ENTRIES → IsLegal (ordered lines) }
+{}
+
+/// A made trace has as many lines as calls were asked for.
+pub fn made_traces_have_all_calls()
+    ensures { (seed calls actors : ℕ) → length (made seed calls actors).lines ≡ calls }
 {}

@@ -7,13 +7,18 @@
 mod action;
 mod change;
 mod change_value;
+mod copies;
 mod fault;
 mod fields;
 mod laws;
+mod made_packets;
+mod made_reports;
+mod making;
 mod reading;
 mod trace;
 mod writing;
 
+pub use copies::copy_call;
 pub use fault::{
     BEHIND_END, NO_ACTOR, NO_END, NO_HEADER, NO_HEX, NO_MOMENT, NO_OBJECT, NO_VERB, ReadTrace,
     TOO_LONG, TOO_MANY_LINES, TraceFault, WRONG_KEY, WRONG_VALUE,
@@ -21,8 +26,9 @@ pub use fault::{
 pub use fields::{cut, number};
 pub use laws::{
     a_text_spells_one_change_or_none, lines_are_cut_at_line_feeds, lines_in_order_are_legal,
-    lines_in_order_merge, no_bytes_spell_two_traces,
+    lines_in_order_merge, made_traces_have_all_calls, no_bytes_spell_two_traces,
 };
+pub use making::make_trace;
 pub use reading::{next_line, read_front, read_trace};
 pub use trace::{Action, Line, LineList, Trace};
 pub use writing::write_trace;

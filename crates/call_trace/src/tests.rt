@@ -239,6 +239,29 @@ fn keys_are_written_in_rising_order(rt: HostRuntime) -> Result<(), Fail> {
     Ok(())
 }
 
+/// The change of the settings and the first packet, which has 100 bytes.
+#[test]
+fn a_made_trace_begins(rt: HostRuntime) -> Result<(), Fail> {
+    let change =
+        b"C 0 0 {\"start\":300000,\"streams\":[{\"enforced\":true,\"id\":1,\"max\":2500000,\"min\":30000,\"weight\":1}]}\n";
+    let mut want = Vec::new(rt.alloc());
+    want.extend_from_slice(b"gcc-trace 1 1\n")?;
+    want.extend_from_slice(change)?;
+    want.extend_from_slice(b"E 0 0 a 906f000000000000000000bbbede000131000000")?;
+    for _ in 0..160 {
+        want.extend_from_slice(b"0")?;
+    }
+    want.extend_from_slice(b"\nend\n")?;
+    let trace = make_trace(rt.alloc(), 7, 2, 1)
+        .ok()
+        .ok_or("memory is there")?;
+    let text = write_trace(rt.alloc(), &trace)
+        .ok()
+        .ok_or("memory is there")?;
+    assert_eq!(rt; text.as_slice(), want.as_slice());
+    Ok(())
+}
+
 /// A header, so many lines of action, and these bytes.
 fn long_trace(rt: &impl AllocGlobal, lines: u32, last: &[u8]) -> Result<Vec<u8>, Fail> {
     let mut bytes = Vec::new(rt.alloc());

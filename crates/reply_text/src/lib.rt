@@ -2,7 +2,6 @@
 #![tactic(auto)]
 
 mod check;
-mod copies;
 mod laws;
 mod lines;
 mod looking;

@@ -11,9 +11,8 @@ ghost use Rattle.reply_text.specs.Text.{line_of};
 ghost use Rattle.reply_text.specs.Verdict.{calls, HasGoodLine};
 ghost use Rattle.reply_text.specs.Walking.{ArePlaced, IsServed, IsWalked};
 
-use crate::copies::copy_call;
 use crate::lines::reply_line;
-use call_trace::{Action, Line, cut, number};
+use call_trace::{Action, Line, copy_call, cut, number};
 use gcc_units::{MOST_ACTORS, NoMemory, Rate, Sequence};
 use send_core::{ApplyFault, Call, Sender};
 use std::alloc::Global;

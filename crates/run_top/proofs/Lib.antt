@@ -4,3 +4,7 @@ pub mod Growing
 pub mod Working
 pub mod Counting
 pub mod Ending
+pub mod CountedWhole
+pub mod Rates
+pub mod Outcomes
+pub mod Made

@@ -1,8 +1,6 @@
 -- One line more, one glance more, one actor more.
-use Rattle.std.proofs.Common.{◌≡◌, ℕ, suc, zero, ◌+◌, ◌≤◌, false, List, [], ◌∷◌, ◌++◌, length, refl, sym, ◌∙◌, ap, subst, arith, append_assoc, append-nil, length-append, Option, None, Some, IfSome, Ok, Err, cond, nat_lt, le-ltb}
+use Rattle.std.proofs.Common.{◌≡◌, ℕ, suc, zero, ◌+◌, ◌≤◌, List, [], ◌∷◌, ◌++◌, length, refl, sym, ◌∙◌, ap, arith, append_assoc, append-nil, length-append}
 use Rattle.std.specs.List.{flat_map, range_with_len}
-use Rattle.gcc_units.specs.declared.limits.TheConstants.{MOST_LINES, MOST_TRACE_BYTES}
-use Rattle.run_io.specs.Growth.{Grew, GrewInPart, Grew-in-part}
 use Rattle.send_core.specs.declared.call.Call.{Call}
 use Rattle.send_core.specs.declared.call.Reply.{Reply}
 use Rattle.send_core.specs.declared.call.Entry.{Entry}
@@ -11,13 +9,9 @@ use Rattle.send_core.specs.Reply.{reply}
 use Rattle.call_trace.specs.declared.trace.Line.{Line}
 use Rattle.call_trace.specs.declared.trace.Action.{Action}
 use Rattle.call_trace.specs.declared.trace.Action.TheVariants.{Ask, Look}
-use Rattle.call_trace.specs.Plain.{Plain}
-use Rattle.call_trace.specs.Reading.{trace_at, fault}
 use Rattle.call_trace.specs.Ordered.{served_by, served, ordered, ordered-push, added}
 use Rattle.reply_text.specs.declared.seen.Seen.{Seen}
-use Rattle.call_trace.specs.declared.fault.TheConstants.{TOO_LONG}
-use Rattle.run_top.specs.Replay.{looked, seen_from, replayed, input}
-use Rattle.run_top.specs.Outcome.{PrintsPart}
+use Rattle.run_top.specs.Replay.{looked, seen_from}
 
 pub served-one : (history : List Entry) (line : Line) → served history (line ∷ []) ≡ history ++ added history line
 unfolding served
@@ -72,15 +66,3 @@ pub served-few : (h : List Entry) (line : Line) → length (served h (line ∷ [
 served-few h line =
     let one : length (served_by h line.actor line.action) ≤ 1 = served_by-few h line.actor line.action in
     rw (served-one h line, length-append h (added h line)) (omega arith)
-
--- ---- what was printed
-
-pub printed : (told : Option (List ℕ)) (bytes text : List ℕ) (trace : Plain) (end before now : Option (List ℕ))
-    → IfSome told (λ all. (bytes ≡ all) × (end ≡ Some [])) → length bytes ≤ MOST_TRACE_BYTES → trace_at MOST_LINES bytes ≡ Ok trace
-    → text ≡ replayed trace → Grew before now text → IfSome told (λ all. PrintsPart (input all) before now)
-printed None bytes text trace end before now read few reads is grew = tt
-printed (Some all) bytes text trace end before now read few reads is grew =
-    let short : nat_lt MOST_TRACE_BYTES (length bytes) ≡ false = le-ltb MOST_TRACE_BYTES (length bytes) few in
-    let traced : input bytes ≡ Ok trace = ap (λ b. cond b (Err (fault 0 TOO_LONG)) (trace_at MOST_LINES bytes)) short ∙ reads in
-    let whole : GrewInPart before now (replayed trace) = subst (GrewInPart before now) is (Grew-in-part before now text grew) in
-    subst (λ r. PrintsPart r before now) (sym (ap input (sym read.0) ∙ traced)) whole

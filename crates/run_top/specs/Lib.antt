@@ -5,3 +5,7 @@ pub mod Replay
 pub mod Outcome
 pub mod Racing
 pub mod Race
+pub mod Check
+pub mod Totals
+pub mod Told
+pub mod Summary

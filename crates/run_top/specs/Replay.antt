@@ -46,11 +46,7 @@ replayed trace = text (ordered trace.lines) (glances trace)
 abbrev pub input : List ℕ → Result Plain TraceFault
 input bytes = if nat_lt MOST_TRACE_BYTES (length bytes) then Err (fault 0 TOO_LONG) else trace_at MOST_LINES bytes
 
--- the text is that of the trace, or the fault is that of the bytes
-abbrev pub GivesText : Result (Listed ℕ) ReadTrace → Result Plain TraceFault → Type 0
-GivesText (Ok bytes) read = (trace : Plain) × (read ≡ Ok trace) × (bytes ≡ bare (replayed trace))
-GivesText (Err e) read = FailsTrace e read
-
--- the bytes spell a trace, and this is its text
-abbrev pub SpelledText : List ℕ → Listed ℕ → Type 0
-SpelledText bytes text_of = (trace : Plain) × IsTrace bytes trace × (text_of ≡ bare (replayed trace))
+-- the bytes spell a trace, and this is its text; or the fault is that of the bytes
+abbrev pub GivesText : List ℕ → Result (Listed ℕ) ReadTrace → Result Plain TraceFault → Type 0
+GivesText bytes (Ok text) read = (trace : Plain) × (read ≡ Ok trace) × IsTrace bytes trace × (text ≡ bare (replayed trace))
+GivesText bytes (Err e) read = FailsTrace e read

@@ -1,21 +1,153 @@
--- The words that are accepted.
-use Rattle.std.specs.Prelude.{ℕ, Bool, false, List, [], ◌∷◌, codes}
+-- The words that are accepted, and what they ask for.
+use Rattle.std.specs.Prelude.{ℕ, ◌≤◌, ◌&&◌, nat_le, nat_eq, if◌then◌else◌, Bool, true, false, Option, None, Some, zero, suc, List, [], ◌∷◌, take, drop, length, codes}
 use Rattle.std.specs.Str.{bytes_eq}
+use Rattle.std.specs.Cmp.Lexicographic.{pointwise}
 use Rattle.gcc_units.specs.Listed.{Listed}
+use Rattle.gcc_units.specs.declared.limits.TheConstants.{MOST_ACTORS, MOST_LINES}
+use Rattle.call_trace.specs.Fields.{number_of}
+use Rattle.run_top.specs.declared.words.Command.{Command}
+use Rattle.run_top.specs.declared.words.Command.TheVariants as command
+use Rattle.run_top.specs.declared.options.Name.{Name}
+use Rattle.run_top.specs.declared.options.Name.TheVariants as name
+use Rattle.run_top.specs.declared.options.Given.{Given}
+
+infixl 10 ◌>>=◌
+abbrev pub ◌>>=◌ : {A B : Type 0} → Option A → (A → Option B) → Option B
+None >>= f = None
+(Some x) >>= f = f x
 
 abbrev pub is_text : Listed ℕ → List ℕ → Bool
 is_text word bytes = bytes_eq word.items bytes
 
--- this one word
-abbrev pub is_only : List (Listed ℕ) → List ℕ → Bool
-is_only [] text = false
-is_only (word ∷ []) text = is_text word text
-is_only (a ∷ b ∷ more) text = false
+-- ---- options
 
--- the one word `replay`
-abbrev pub is_replay : List (Listed ℕ) → Bool
-is_replay words = is_only words (codes "replay")
+abbrev pub name_text : Name → List ℕ
+name_text name.Seed = codes "--seed"
+name_text name.Calls = codes "--calls"
+name_text name.Actors = codes "--actors"
 
--- the one word `race`
-abbrev pub is_race : List (Listed ℕ) → Bool
-is_race words = is_only words (codes "race")
+abbrev pub same_name : Name → Name → Bool
+same_name name.Seed name.Seed = true
+same_name name.Seed name.Calls = false
+same_name name.Seed name.Actors = false
+same_name name.Calls name.Seed = false
+same_name name.Calls name.Calls = true
+same_name name.Calls name.Actors = false
+same_name name.Actors name.Seed = false
+same_name name.Actors name.Calls = false
+same_name name.Actors name.Actors = true
+
+-- an option, and the words behind it
+abbrev pub Taken : Type 0
+Taken = Given × List (Listed ℕ)
+
+abbrev pub given : Name → ℕ → Given
+given name number = record { name = name; number = number }
+
+-- what stands behind this beginning, where the bytes begin so
+abbrev pub stripped : List ℕ → List ℕ → Option (List ℕ)
+stripped front bytes = if pointwise nat_eq (take (length front) bytes) front then Some (drop (length front) bytes) else None
+
+-- the number is the next word
+abbrev pub in_two : Name → List (Listed ℕ) → Option Taken
+in_two name [] = None
+in_two name (word ∷ words) = do
+  number ← number_of word.items
+  Some (given name number, words)
+
+-- the number stands behind the name and a `=`
+abbrev pub in_one : Name → Listed ℕ → List (Listed ℕ) → Option Taken
+in_one name word words = do
+  text ← stripped (name_text name) word.items
+  digits ← stripped (codes "=") text
+  number ← number_of digits
+  Some (given name number, words)
+
+-- the option of this name that words begin with: `--seed 7` or `--seed=7`
+abbrev pub option_of : Name → List (Listed ℕ) → Option Taken
+option_of name [] = None
+option_of name (word ∷ words) = if is_text word (name_text name) then in_two name words else in_one name word words
+
+abbrev pub or_else : {A : Type 0} → Option A → Option A → Option A
+or_else None other = other
+or_else (Some x) other = Some x
+
+-- the option that words begin with
+abbrev pub option_at : List (Listed ℕ) → Option Taken
+option_at words = or_else (option_of name.Seed words) (or_else (option_of name.Calls words) (option_of name.Actors words))
+
+-- so many options, and nothing behind them
+abbrev pub options_at : ℕ → List (Listed ℕ) → Option (List Given)
+options_at zero [] = Some []
+options_at zero (word ∷ words) = None
+options_at (suc n) words = do
+  taken ← option_at words
+  others ← options_at n taken.1
+  Some (taken.0 ∷ others)
+
+-- the number of the option of this name
+abbrev pub number_for : Name → List Given → Option ℕ
+number_for name [] = None
+number_for name (first ∷ others) = if same_name first.name name then Some first.number else number_for name others
+
+-- a number from 1 to the most
+abbrev pub up_to : ℕ → ℕ → Option ℕ
+up_to most n = if nat_le 1 n && nat_le n most then Some n else None
+
+-- ---- commands
+
+abbrev pub alone : Command → List (Listed ℕ) → Option Command
+alone command [] = Some command
+alone command (word ∷ words) = None
+
+-- the options of `make`, each once
+unfoldable pub make_at : List (Listed ℕ) → Option Command
+make_at words = do
+  options ← options_at 3 words
+  seed ← number_for name.Seed options
+  calls ← number_for name.Calls options >>= up_to MOST_LINES
+  actors ← number_for name.Actors options >>= up_to MOST_ACTORS
+  Some (command.Make seed calls actors)
+
+-- the options of `demo`, each once
+unfoldable pub demo_at : List (Listed ℕ) → Option Command
+demo_at words = do
+  options ← options_at 2 words
+  seed ← number_for name.Seed options
+  calls ← number_for name.Calls options >>= up_to MOST_LINES
+  Some (command.Demo seed calls)
+
+-- what words ask for, if they are accepted
+unfoldable pub command_of : List (Listed ℕ) → Option Command
+command_of [] = None
+command_of (word ∷ words) =
+    if is_text word (codes "replay") then alone command.Replay words
+    else if is_text word (codes "race") then alone command.Race words
+    else if is_text word (codes "check") then alone command.Check words
+    else if is_text word (codes "make") then make_at words
+    else if is_text word (codes "demo") then demo_at words
+    else None
+
+-- a number from 1 to the most
+abbrev pub IsUpTo : ℕ → ℕ → Type 0
+IsUpTo most n = (1 ≤ n) × (n ≤ most)
+
+-- the numbers of a command are within the limits
+abbrev pub IsWithin : Command → Type 0
+IsWithin command.Replay = Unit {0}
+IsWithin command.Race = Unit {0}
+IsWithin command.Check = Unit {0}
+IsWithin (command.Make seed calls actors) = IsUpTo MOST_LINES calls × IsUpTo MOST_ACTORS actors
+IsWithin (command.Demo seed calls) = IsUpTo MOST_LINES calls
+
+-- a race waits
+abbrev pub unless_race : Command → Option Command
+unless_race command.Race = None
+unless_race command.Replay = Some command.Replay
+unless_race command.Check = Some command.Check
+unless_race (command.Make seed calls actors) = Some (command.Make seed calls actors)
+unless_race (command.Demo seed calls) = Some (command.Demo seed calls)
+
+-- the command that is served without waiting
+abbrev pub plain_command_of : List (Listed ℕ) → Option Command
+plain_command_of words = command_of words >>= unless_race

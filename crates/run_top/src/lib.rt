@@ -2,11 +2,17 @@
 //! of it.
 #![tactic(auto)]
 
+mod checking;
+mod making;
+mod options;
 mod racing;
 mod reading;
 mod replay;
 mod status;
+mod summing;
+mod told;
 mod top;
+mod totals;
 mod words;
 mod workers;
 mod writing;

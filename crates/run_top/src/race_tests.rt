@@ -1,9 +1,11 @@
 //! Races over memory, with gates that hold actors back.
 
-use crate::tests::{bytes_of, smallest_text, smallest_trace, words};
+ghost use Rattle.std.specs.Prelude.{◌≤◌};
+
+use crate::tests::{bytes_of, served, smallest_text, smallest_trace, words};
 use crate::{Status, run};
-use call_trace::read_trace;
-use gcc_units::{IdList, MOST_CHECK_BYTES};
+use call_trace::{make_trace, read_trace, write_trace};
+use gcc_units::{IdList, MOST_ACTORS, MOST_CHECK_BYTES};
 use reply_text::{Verdict, check_history};
 use run_io::{Gate, MemSink, MemSource, OpenGate};
 use std::alloc::Global;
@@ -94,6 +96,38 @@ fn four_actors_at_once(rt: HostRuntime) -> Result<(), Fail> {
     assert_eq!(rt; status, Status::Done);
     assert!(rt; is_legal(alloc, trace.as_slice(), sink.written())?);
     assert!(rt; sink.written().ends_with(b"\nend 80 40 300000\n"));
+    Ok(())
+}
+
+/// Whether a race over a made trace ends, and a check calls what it writes legal.
+fn made_race_is_legal<R: Threads + Wait + Sync>(
+    rt: &R,
+    alloc: Global,
+    seed: u64,
+    actors: u32,
+) -> Result<bool, Fail>
+    requires some { 1 ≤ actors }
+    requires few { actors ≤ MOST_ACTORS }
+{
+    let trace = make_trace(alloc, seed, 200, actors)?;
+    let bytes = write_trace(alloc, &trace)?;
+    let (status, sink) = raced(rt, alloc, bytes.as_slice(), &OpenGate)?;
+    if status != Status::Done {
+        return Ok(false);
+    }
+    let mut both = bytes.as_slice().to_vec(alloc)?;
+    both.extend_from_slice(sink.written())?;
+    let (status, verdict) = served(alloc, b"check", both.as_slice())?;
+    Ok(status == Status::Done && verdict.written() == b"legal\n".as_slice())
+}
+
+#[test]
+fn fifty_made_traces(rt: HostRuntime) -> Result<(), Fail> {
+    let alloc = rt.alloc();
+    for k in 0..50 {
+        let actors = 2 + k % 15;
+        assert!(rt; made_race_is_legal(&rt, alloc, u64::from(k), actors)?);
+    }
     Ok(())
 }
 

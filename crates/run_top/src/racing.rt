@@ -1,6 +1,6 @@
 //! A race: the actors of a trace make their calls at the same time, on one shared sender.
 
-ghost use Rattle.std.specs.Prelude.{◌≡◌, ◌≢◌, ◌^◌, ◌<◌, ◌≤◌, ◌++◌, ◌∷◌, [], ◌⊎◌, List, Some, length, map, All, IfOk, OnOk, IfSome, IsOk};
+ghost use Rattle.std.specs.Prelude.{◌≡◌, ◌≢◌, ℕ, ◌^◌, ◌<◌, ◌≤◌, ◌++◌, ◌∷◌, [], ◌⊎◌, List, Some, length, map, All, IfOk, OnOk, IfSome};
 ghost use Rattle.std.specs.List.{flat_map, range_with_len};
 ghost use Rattle.call_trace.specs.Plain.{plain, Fits};
 ghost use Rattle.call_trace.specs.Merge.{Merges};
@@ -9,10 +9,9 @@ ghost use Rattle.send_core.specs.Reply.{IsLegal};
 ghost use Rattle.reply_text.specs.Legal.{AreGlancesOf};
 ghost use Rattle.run_top.specs.Racing.{AreWorked, IsReady, IsFresh, IsDone, AnyFull, keys, seat_of, actor_of, taken_by};
 ghost use Rattle.run_io.specs.Faults.{Rose};
-ghost use Rattle.run_io.specs.Growth.{Grew};
-ghost use Rattle.run_top.specs.Replay.{input};
-ghost use Rattle.run_top.specs.Outcome.{IsSilent, IsAnswered, NamesFault};
-ghost use Rattle.run_top.specs.Race.{GivesLegalText, SpelledLegalText, PrintsLegal, PrintsLegalPart, PrintsLegalSpelled};
+ghost use Rattle.run_top.specs.declared.words.Command.TheVariants as command;
+ghost use Rattle.run_top.specs.Outcome.{IsReadUp, IsEnded, IsSilent, IsAnswered, NamesFault, Wrote, WroteInPart};
+ghost use Rattle.run_top.specs.Race.{GivesLegalText};
 
 use crate::reading::{ReadStop, read_all};
 use crate::status::Status;
@@ -183,8 +182,7 @@ fn race_text<R: Threads + Wait + Sync, G: Gate + Sync>(
     bytes: &[u8],
 ) -> Result<Bytes, ReadTrace>
     requires { length bytes.now ≤ MOST_TRACE_BYTES }
-    ensures text { GivesLegalText result (trace_at MOST_LINES bytes.now) }
-    ensures spelled { IfOk result (λ text. SpelledLegalText bytes.now text) }
+    ensures { GivesLegalText bytes.now result (trace_at MOST_LINES bytes.now) }
 {
     let trace = read_trace(alloc, bytes)?;
     let Ok(raced) = race(rt, alloc, gate, &trace) else {
@@ -205,17 +203,15 @@ pub fn run_race<R: Threads + Wait + Sync, S: Source, K: Sink, G: Gate + Sync>(
     gate: &G,
 ) -> Status
     ensures words { result ≢ Status.Usage }
-    ensures read { result ≡ Status.Done → IfSome (S.left source.old) (λ bytes. S.left source.new ≡ Some []) }
-    ensures done { result ≡ Status.Done → IfSome (S.left source.old) (λ bytes. PrintsLegal (input bytes) (K.written sink.old) (K.written sink.new)) }
-    ensures spelled { result ≡ Status.Done → IfSome (S.left source.old) (λ bytes. PrintsLegalSpelled bytes (K.written sink.old) (K.written sink.new)) }
-    ensures bad { IfSome (S.left source.old) (NamesFault result) }
+    ensures same { (entry : ℕ) → result ≢ Status.Differs entry }
+    ensures read { IsEnded result → IsReadUp command.Race (S.left source.old) (S.left source.new) }
+    ensures done { IsEnded result → IfSome (S.left source.old) (λ bytes. Wrote command.Race bytes result (K.written sink.old) (K.written sink.new)) }
+    ensures bad { IfSome (S.left source.old) (NamesFault command.Race result) }
     ensures read_fault { result ≡ Status.ReadFault → Rose (S.faults source.old) (S.faults source.new) }
     ensures write_fault { result ≡ Status.WriteFault → Rose (K.faults sink.old) (K.faults sink.new) }
-    ensures write_fault_of { result ≡ Status.WriteFault → IfSome (S.left source.old) (λ bytes. IsOk (input bytes)) }
+    ensures part { result ≡ Status.WriteFault → IfSome (S.left source.old) (λ bytes. WroteInPart command.Race bytes (K.written sink.old) (K.written sink.new)) }
     ensures complete { (Rose (S.faults source.old) (S.faults source.new) → ⊥) → (Rose (K.faults sink.old) (K.faults sink.new) → ⊥) → IsAnswered result }
     ensures silent { IsSilent result (K.written sink.old) (K.written sink.new) }
-    ensures part { result ≡ Status.WriteFault → IfSome (S.left source.old) (λ bytes. PrintsLegalPart (input bytes) (K.written sink.old) (K.written sink.new)) }
-    ensures unwritten { result ≡ Status.NoMemory → Grew (K.written sink.old) (K.written sink.new) [] }
 {
     let bytes = match read_all(alloc, source, MOST_TRACE_BYTES as usize) {
         Ok(bytes) => bytes,

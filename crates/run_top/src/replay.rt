@@ -1,16 +1,23 @@
 //! Replaying a trace: its calls are served in the order of its lines.
 
-ghost use Rattle.std.specs.Prelude.{◌≡◌, ◌≤◌, ◌<◌, ◌++◌, [], ◌∷◌, length, IfOk, IfErr, OnOk};
+ghost use Rattle.std.specs.Prelude.{◌≡◌, ◌≢◌, ℕ, ◌≤◌, ◌<◌, ◌++◌, [], ◌∷◌, length, IfOk, IfErr, OnOk, IfSome};
 ghost use Rattle.std.specs.List.{flat_map, range_with_len};
 ghost use Rattle.gcc_units.specs.Listed.{bare};
 ghost use Rattle.call_trace.specs.Reading.{trace_at};
 ghost use Rattle.call_trace.specs.Plain.{plain};
 ghost use Rattle.call_trace.specs.Ordered.{served, ordered};
-ghost use Rattle.run_top.specs.Replay.{looked, seen_from, of_actor, replayed, GivesText, SpelledText};
+ghost use Rattle.run_io.specs.Faults.{Rose};
+ghost use Rattle.run_top.specs.declared.words.Command.TheVariants as command;
+ghost use Rattle.run_top.specs.Outcome.{IsReadUp, IsEnded, IsSilent, IsAnswered, NamesFault, Wrote, WroteInPart};
+ghost use Rattle.run_top.specs.Replay.{looked, seen_from, of_actor, replayed, GivesText};
 
-use call_trace::{Action, Line, LineList, ReadTrace, Trace, read_trace};
+use crate::reading::{ReadStop, read_all};
+use crate::status::Status;
+use crate::writing::write_all;
+use call_trace::{Action, Line, LineList, ReadTrace, TOO_LONG, Trace, read_trace};
 use gcc_units::{Bytes, MOST_ENTRIES, MOST_LINES, MOST_TRACE_BYTES, NoMemory};
 use reply_text::{Seen, SeenList, write_history};
+use run_io::{Sink, Source};
 use send_core::{ApplyFault, Sender};
 use std::alloc::Global;
 
@@ -47,7 +54,7 @@ fn serve_line(
 }
 
 /// Serves all lines of a trace, in their order.
-fn serve_lines(alloc: Global, lines: LineList) -> Result<(Sender, SeenList), NoMemory>
+pub fn serve_lines(alloc: Global, lines: LineList) -> Result<(Sender, SeenList), NoMemory>
     requires { length lines.items ≤ MOST_LINES }
     ensures served { IfOk result (λ r. r.0 ≡ ordered lines.items) }
     ensures seen { IfOk result (λ r. r.1.items ≡ seen_from [] lines.items) }
@@ -84,10 +91,9 @@ fn by_actor(alloc: Global, seen: &SeenList, actors: u32) -> Result<SeenList, NoM
 }
 
 /// The printed history of the trace that the bytes spell.
-pub fn replay(alloc: Global, bytes: &[u8]) -> Result<Bytes, ReadTrace>
+fn replay(alloc: Global, bytes: &[u8]) -> Result<Bytes, ReadTrace>
     requires { length bytes.now ≤ MOST_TRACE_BYTES }
-    ensures text { GivesText result (trace_at MOST_LINES bytes.now) }
-    ensures spelled { IfOk result (λ text. SpelledText bytes.now text) }
+    ensures { GivesText bytes.now result (trace_at MOST_LINES bytes.now) }
 {
     let trace = read_trace(alloc, bytes)?;
     match print_trace(alloc, trace) {
@@ -105,4 +111,40 @@ fn print_trace(alloc: Global, trace: Trace) -> Result<Bytes, NoMemory>
     let glances = by_actor(alloc, &seen, actors)?;
     let text = write_history(alloc, sender.journal(), &glances)?;
     Ok(text)
+}
+
+/// Reads a trace to the end of the source, replays it, and writes the printed history.
+pub fn run_replay<S: Source, K: Sink>(alloc: Global, source: &mut S, sink: &mut K) -> Status
+    ensures words { result ≢ Status.Usage }
+    ensures same { (entry : ℕ) → result ≢ Status.Differs entry }
+    ensures read { IsEnded result → IsReadUp command.Replay (S.left source.old) (S.left source.new) }
+    ensures done { IsEnded result → IfSome (S.left source.old) (λ bytes. Wrote command.Replay bytes result (K.written sink.old) (K.written sink.new)) }
+    ensures bad { IfSome (S.left source.old) (NamesFault command.Replay result) }
+    ensures read_fault { result ≡ Status.ReadFault → Rose (S.faults source.old) (S.faults source.new) }
+    ensures write_fault { result ≡ Status.WriteFault → Rose (K.faults sink.old) (K.faults sink.new) }
+    ensures part { result ≡ Status.WriteFault → IfSome (S.left source.old) (λ bytes. WroteInPart command.Replay bytes (K.written sink.old) (K.written sink.new)) }
+    ensures complete { (Rose (S.faults source.old) (S.faults source.new) → ⊥) → (Rose (K.faults sink.old) (K.faults sink.new) → ⊥) → IsAnswered result }
+    ensures silent { IsSilent result (K.written sink.old) (K.written sink.new) }
+{
+    let bytes = match read_all(alloc, source, MOST_TRACE_BYTES as usize) {
+        Ok(bytes) => bytes,
+        Err(ReadStop::Fault) => return Status::ReadFault,
+        Err(ReadStop::TooLong) => return Status::BadTrace {
+            line: 0,
+            reason: TOO_LONG,
+        },
+        Err(ReadStop::NoMemory) => return Status::NoMemory,
+    };
+    let text = match replay(alloc, bytes.as_slice()) {
+        Ok(text) => text,
+        Err(ReadTrace::Fault(fault)) => return Status::BadTrace {
+            line: fault.line,
+            reason: fault.reason,
+        },
+        Err(ReadTrace::NoMemory) => return Status::NoMemory,
+    };
+    match write_all(sink, text.as_slice()) {
+        Ok(()) => Status::Done,
+        Err(_) => Status::WriteFault,
+    }
 }

@@ -22,12 +22,15 @@ pub enum Status {
     ReadFault,
     /// A write failed. What was written is the beginning of what was to be written.
     WriteFault,
-    /// Memory ran out. What was written is a beginning of what was to be written.
+    /// Memory ran out. Nothing was written.
     NoMemory,
+    /// `check` found that what stands behind the trace is no legal text for it: the place, as
+    /// its verdict names it. The verdict was written.
+    Differs { entry: u32 },
 }
 
 impl Status {
-    /// The exit code: 0, 2, 3, 4, 5 or 6.
+    /// The exit code: 0, 2, 3, 4, 5, 6 or 8.
     pub fn code(&self) -> u8
         ensures { result ≡ code_of self.now }
     {
@@ -38,6 +41,7 @@ impl Status {
             Status::ReadFault => 4,
             Status::WriteFault => 5,
             Status::NoMemory => 6,
+            Status::Differs { .. } => 8,
         }
     }
 
@@ -72,5 +76,6 @@ fn status_line(alloc: Global, status: Status) -> Result<String, NoMemory>
         Status::ReadFault => Ok(format!(in alloc; "read fault\n")?),
         Status::WriteFault => Ok(format!(in alloc; "write fault\n")?),
         Status::NoMemory => Ok(format!(in alloc; "no memory\n")?),
+        Status::Differs { entry } => Ok(format!(in alloc; "differs: entry {entry}\n")?),
     }
 }

@@ -247,26 +247,163 @@ fn queue_limit(rt: HostRuntime) -> Result<(), Fail> {
     Ok(())
 }
 
-#[test]
-fn other_words_are_usage(rt: HostRuntime) -> Result<(), Fail> {
-    let alloc = rt.alloc();
-    let mut two = words(alloc, replay_word())?;
-    two.push(bytes_of(alloc, b"x")?)
-        .ok()
-        .ok_or("there is room")?;
-    check_usage(&rt, alloc, &two)?;
-    check_usage(&rt, alloc, &WordList::new(alloc))?;
-    check_usage(&rt, alloc, &words(alloc, b"race")?)?;
-    check_usage(&rt, alloc, &words(alloc, b"replay ")?)
+/// The words that stand in the text, with one space between each two.
+fn words_in(alloc: Global, text: &[u8]) -> Result<WordList, Fail> {
+    let mut list = WordList::new(alloc);
+    let mut word = Bytes::new(alloc);
+    for byte in text {
+        if *byte == b' ' {
+            list.push(word).ok().ok_or("there is room")?;
+            word = Bytes::new(alloc);
+        } else {
+            word.push(*byte).ok().ok_or("there is room")?;
+        }
+    }
+    list.push(word).ok().ok_or("there is room")?;
+    Ok(list)
 }
 
-fn check_usage<R: Abort>(rt: &R, alloc: Global, words: &WordList) -> Result<(), Fail> {
-    let mut source = MemSource::new(bytes_of(alloc, smallest_trace())?, 1000, IdList::new(alloc));
+/// How these words end on a source, and what they write.
+pub(crate) fn served(
+    alloc: Global,
+    words: &[u8],
+    source: &[u8],
+) -> Result<(Status, MemSink), Fail> {
+    let words = words_in(alloc, words)?;
+    let mut source = MemSource::new(bytes_of(alloc, source)?, 1000, IdList::new(alloc));
     let mut sink = MemSink::new(alloc, ROOM, 1000, IdList::new(alloc))?;
-    let status = run_plain(alloc, words, &mut source, &mut sink);
+    let status = run_plain(alloc, &words, &mut source, &mut sink);
+    Ok((status, sink))
+}
+
+fn check_usage<R: Abort>(rt: &R, alloc: Global, words: &[u8]) -> Result<(), Fail> {
+    let (status, sink) = served(alloc, words, smallest_trace())?;
     assert_eq!(rt; status, Status::Usage);
     assert_eq!(rt; sink.written().len(), 0);
     Ok(())
+}
+
+#[test]
+fn other_words_are_usage(rt: HostRuntime) -> Result<(), Fail> {
+    let alloc = rt.alloc();
+    check_usage(&rt, alloc, b"")?;
+    check_usage(&rt, alloc, b"replay x")?;
+    check_usage(&rt, alloc, b"replay --")?;
+    check_usage(&rt, alloc, b"race")?;
+    check_usage(&rt, alloc, b"make --seed 7 --calls 0 --actors 1")?;
+    check_usage(&rt, alloc, b"make --seed 7 --calls 1 --actors 17")?;
+    check_usage(&rt, alloc, b"make --seed 7 --calls 1")?;
+    check_usage(&rt, alloc, b"demo --seed 07 --calls 1")?;
+    check_usage(&rt, alloc, b"demo --seed 7 --seed 7 --calls 1")?;
+    check_usage(&rt, alloc, b"demo --seed --calls 1")
+}
+
+/// The trace of one change and one audio packet of 100 bytes.
+fn made_trace(alloc: Global) -> Result<Vec<u8>, Fail> {
+    let mut trace = b"gcc-trace 1 1\n".to_vec(alloc)?;
+    trace.extend_from_slice(b"C 0 0 {\"start\":300000,\"streams\":[{\"enforced\":true,\"id\":1,")?;
+    trace.extend_from_slice(b"\"max\":2500000,\"min\":30000,\"weight\":1}]}\n")?;
+    trace.extend_from_slice(b"E 0 0 a 906f000000000000000000bbbede000131000000")?;
+    for _ in 0..160 {
+        trace.push(b'0')?;
+    }
+    trace.extend_from_slice(b"\nend\n")?;
+    Ok(trace)
+}
+
+// An option may be given as one word or as two, in any order.
+#[test]
+fn made_traces(rt: HostRuntime) -> Result<(), Fail> {
+    let alloc = rt.alloc();
+    let want = made_trace(alloc)?;
+    let (status, sink) = served(alloc, b"make --seed 7 --calls 2 --actors 1", b"")?;
+    assert_eq!(rt; status, Status::Done);
+    assert_eq!(rt; sink.written(), want.as_slice());
+    let (status, sink) = served(alloc, b"make --actors=1 --seed=7 --calls 2", b"")?;
+    assert_eq!(rt; status, Status::Done);
+    assert_eq!(rt; sink.written(), want.as_slice());
+    Ok(())
+}
+
+fn change_summary() -> &'static [u8] {
+    b"calls 1
+sent 0 0
+kinds audio 0 media 0 probe 0 padding 0
+credited 0 outstanding 0 expired 0
+media 0 integral 0 window 3750000000 last 0
+target 300000 delay 300000 loss 300000
+"
+}
+
+fn long_summary() -> &'static [u8] {
+    b"calls 20000
+sent 13003 13223574
+kinds audio 1590 media 11393 probe 20 padding 0
+credited 12795 outstanding 208 expired 0
+media 13059085 integral 261449486600000 window 3750000000 last 1193
+target 5724314 delay 8610563 loss 5724314
+"
+}
+
+#[test]
+fn summaries(rt: HostRuntime) -> Result<(), Fail> {
+    let alloc = rt.alloc();
+    let (status, sink) = served(alloc, b"demo --seed 1 --calls 1", b"")?;
+    assert_eq!(rt; status, Status::Done);
+    assert_eq!(rt; sink.written(), change_summary());
+    let (status, sink) = served(alloc, b"demo --seed 7 --calls 20000", b"")?;
+    assert_eq!(rt; status, Status::Done);
+    assert_eq!(rt; sink.written(), long_summary());
+    Ok(())
+}
+
+/// A trace, and this text behind it.
+fn with_text(alloc: Global, text: &[u8]) -> Result<Vec<u8>, Fail> {
+    let mut bytes = smallest_trace().to_vec(alloc)?;
+    bytes.extend_from_slice(text)?;
+    Ok(bytes)
+}
+
+fn check_verdict<R: Abort>(
+    rt: &R,
+    alloc: Global,
+    text: &[u8],
+    status: Status,
+    verdict: &[u8],
+) -> Result<(), Fail> {
+    let bytes = with_text(alloc, text)?;
+    let (ended, sink) = served(alloc, b"check", bytes.as_slice())?;
+    assert_eq!(rt; ended, status);
+    assert_eq!(rt; sink.written(), verdict);
+    Ok(())
+}
+
+fn exchanged_text() -> &'static [u8] {
+    b"gcc-history 1
+0 accepted 1100 1
+0 accepted 1000 0
+0 paced 2000 2 0:a:1:20 1:m:0:20
+end 3 2 300000
+"
+}
+
+fn wrong_tail() -> &'static [u8] {
+    b"gcc-history 1
+0 accepted 1000 0
+0 accepted 1100 1
+0 paced 2000 2 0:a:1:20 1:m:0:20
+end 3 2 300001
+"
+}
+
+#[test]
+fn verdicts(rt: HostRuntime) -> Result<(), Fail> {
+    let alloc = rt.alloc();
+    let first = Status::Differs { entry: 0 };
+    let last = Status::Differs { entry: 3 };
+    check_verdict(&rt, alloc, smallest_text(), Status::Done, b"legal\n")?;
+    check_verdict(&rt, alloc, exchanged_text(), first, b"differs 0\n")?;
+    check_verdict(&rt, alloc, wrong_tail(), last, b"differs 3\n")
 }
 
 fn faulty_run(
@@ -327,5 +464,7 @@ fn codes_and_texts(rt: HostRuntime) -> Result<(), Fail> {
     check_status(&rt, alloc, bad, 3, b"bad trace: line 3 reason 10\n")?;
     check_status(&rt, alloc, Status::ReadFault, 4, b"read fault\n")?;
     check_status(&rt, alloc, Status::WriteFault, 5, b"write fault\n")?;
-    check_status(&rt, alloc, Status::NoMemory, 6, b"no memory\n")
+    check_status(&rt, alloc, Status::NoMemory, 6, b"no memory\n")?;
+    let differs = Status::Differs { entry: 3 };
+    check_status(&rt, alloc, differs, 8, b"differs: entry 3\n")
 }

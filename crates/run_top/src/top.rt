@@ -1,22 +1,19 @@
 //! The top call.
 
-ghost use Rattle.std.specs.Prelude.{◌≡◌, ◌≤◌, ◌<◌, ◌↔◌, ◌⊎◌, [], List, Some, Ok, true, false, length, IfSome, IfErr, IsOk, codes};
+ghost use Rattle.std.specs.Prelude.{◌≡◌, ℕ, ◌↔◌, None, Some, [], IfSome};
 ghost use Rattle.run_io.specs.Faults.{Rose};
-ghost use Rattle.run_io.specs.Growth.{Grew, GrewInPart};
-ghost use Rattle.run_top.specs.Words.{is_replay, is_race};
-ghost use Rattle.run_top.specs.Race.{PrintsLegal, PrintsLegalPart, PrintsLegalSpelled};
-ghost use Rattle.run_top.specs.Replay.{input};
-ghost use Rattle.run_top.specs.Outcome.{IsSilent, IsAnswered, NamesFault, Prints, PrintsPart, PrintsSpelled};
-ghost use Rattle.run_top.specs.declared.status.Status.TheVariants as status;
+ghost use Rattle.run_top.specs.Words.{command_of, plain_command_of};
+ghost use Rattle.run_top.specs.declared.words.Command.{Command};
+ghost use Rattle.run_top.specs.declared.words.Command.TheVariants as command;
+ghost use Rattle.run_top.specs.Outcome.{IfTold, IsReadUp, IsEnded, IsSilent, IsAnswered, NamesFault, Wrote, WroteInPart};
 
+use crate::checking::run_check;
+use crate::making::run_make;
 use crate::racing::run_race;
-use crate::reading::{ReadStop, read_all};
-use crate::replay::replay;
+use crate::replay::run_replay;
 use crate::status::Status;
-use crate::words::{WordList, is_race, is_replay};
-use crate::writing::write_all;
-use call_trace::{ReadTrace, TOO_LONG};
-use gcc_units::MOST_TRACE_BYTES;
+use crate::summing::run_demo;
+use crate::words::{Command, WordList, read_words};
 use run_io::{Gate, Sink, Source};
 use std::alloc::Global;
 use std::sync::Wait;
@@ -25,7 +22,11 @@ use std::thread::Threads;
 /// Serves the words of a command line, waits for nobody and always returns.
 ///
 /// `replay` reads a trace to the end of the source and writes the printed history of its calls in
-/// the order of its lines, with its glances. All other words are `Usage`, `race` too.
+/// the order of its lines, with its glances. `check` reads a trace and a printed history behind it,
+/// and writes the verdict on the history: `legal` or `differs ENTRY`. `make` with `--seed`,
+/// `--calls` and `--actors` reads nothing and writes a made trace; `demo` with `--seed` and
+/// `--calls` writes a summary of such a trace of one actor, replayed. All other words are `Usage`,
+/// `race` too.
 pub fn run_plain<S: Source, K: Sink>(
     alloc: Global,
     words: &WordList,
@@ -33,50 +34,38 @@ pub fn run_plain<S: Source, K: Sink>(
     sink: &mut K,
 ) -> Status
     // The words alone decide on Usage, and nothing is read then.
-    ensures usage { (result ≡ Status.Usage) ↔ (is_replay words.now.items ≡ false) }
+    ensures usage { (result ≡ Status.Usage) ↔ (plain_command_of words.now.items ≡ None) }
     ensures unread { result ≡ Status.Usage → S.left source.new ≡ S.left source.old }
 
-    // At Done all was read and the printed history was written.
-    ensures read { result ≡ Status.Done → IfSome (S.left source.old) (λ bytes. S.left source.new ≡ Some []) }
-    ensures done { result ≡ Status.Done → IfSome (S.left source.old) (λ bytes. Prints (input bytes) (K.written sink.old) (K.written sink.new)) }
-    ensures spelled { result ≡ Status.Done → IfSome (S.left source.old) (λ bytes. PrintsSpelled bytes (K.written sink.old) (K.written sink.new)) }
+    // At the end all was read, and what the command writes was written.
+    ensures read { IsEnded result → IfSome (plain_command_of words.now.items) (λ c. IsReadUp c (S.left source.old) (S.left source.new)) }
+    ensures done { IsEnded result → IfSome (plain_command_of words.now.items) (λ c. IfTold c (S.left source.old) (λ bytes. Wrote c bytes result (K.written sink.old) (K.written sink.new))) }
+    ensures differs { (entry : ℕ) → result ≡ Status.Differs entry → plain_command_of words.now.items ≡ Some command.Check }
 
     // Each fault has its cause.
-    ensures bad { IfSome (S.left source.old) (NamesFault result) }
+    ensures bad { IfSome (plain_command_of words.now.items) (λ c. IfTold c (S.left source.old) (NamesFault c result)) }
     ensures read_fault { result ≡ Status.ReadFault → Rose (S.faults source.old) (S.faults source.new) }
     ensures write_fault { result ≡ Status.WriteFault → Rose (K.faults sink.old) (K.faults sink.new) }
-    ensures write_fault_of { result ≡ Status.WriteFault → IfSome (S.left source.old) (λ bytes. IsOk (input bytes)) }
 
-    // With these words, and where no count rose, the run is done, or memory ran out, or the bytes are no trace.
-    ensures complete { is_replay words.now.items ≡ true → (Rose (S.faults source.old) (S.faults source.new) → ⊥) → (Rose (K.faults sink.old) (K.faults sink.new) → ⊥) → IsAnswered result }
+    // With words that are accepted, and where no count rose, the run came to its end, or memory ran out, or the bytes are no trace.
+    ensures complete { IfSome (plain_command_of words.now.items) (λ c. (Rose (S.faults source.old) (S.faults source.new) → ⊥) → (Rose (K.faults sink.old) (K.faults sink.new) → ⊥) → IsAnswered result) }
 
-    // What was written is a beginning of the printed history, and nothing where there is none.
+    // At a failed write a beginning of it was written, and else nothing.
+    ensures part { result ≡ Status.WriteFault → IfSome (plain_command_of words.now.items) (λ c. IfTold c (S.left source.old) (λ bytes. WroteInPart c bytes (K.written sink.old) (K.written sink.new))) }
     ensures silent { IsSilent result (K.written sink.old) (K.written sink.new) }
-    ensures part { IfSome (S.left source.old) (λ bytes. PrintsPart (input bytes) (K.written sink.old) (K.written sink.new)) }
 {
-    if !is_replay(words) {
-        return Status::Usage;
-    }
-    let bytes = match read_all(alloc, source, MOST_TRACE_BYTES as usize) {
-        Ok(bytes) => bytes,
-        Err(ReadStop::Fault) => return Status::ReadFault,
-        Err(ReadStop::TooLong) => return Status::BadTrace {
-            line: 0,
-            reason: TOO_LONG,
-        },
-        Err(ReadStop::NoMemory) => return Status::NoMemory,
-    };
-    let text = match replay(alloc, bytes.as_slice()) {
-        Ok(text) => text,
-        Err(ReadTrace::Fault(fault)) => return Status::BadTrace {
-            line: fault.line,
-            reason: fault.reason,
-        },
-        Err(ReadTrace::NoMemory) => return Status::NoMemory,
-    };
-    match write_all(sink, text.as_slice()) {
-        Ok(()) => Status::Done,
-        Err(_) => Status::WriteFault,
+    match read_words(words) {
+        Some(Command::Replay) => run_replay(alloc, source, sink),
+        Some(Command::Check) => run_check(alloc, source, sink),
+        Some(
+            Command::Make {
+                seed,
+                calls,
+                actors,
+            },
+        ) => run_make(alloc, seed, calls, actors, sink),
+        Some(Command::Demo { seed, calls }) => run_demo(alloc, seed, calls, sink),
+        Some(Command::Race) | None => Status::Usage,
     }
 }
 
@@ -95,38 +84,28 @@ pub fn run<R: Threads + Wait + Sync, S: Source, K: Sink, G: Gate + Sync>(
     gate: &G,
 ) -> Status
     // The words alone decide on Usage, and nothing is read then.
-    ensures usage { (result ≡ Status.Usage) ↔ ((is_replay words.now.items ≡ false) × (is_race words.now.items ≡ false)) }
+    ensures usage { (result ≡ Status.Usage) ↔ (command_of words.now.items ≡ None) }
     ensures unread { result ≡ Status.Usage → S.left source.new ≡ S.left source.old }
 
-    // At Done all was read and the printed history was written.
-    ensures read { result ≡ Status.Done → IfSome (S.left source.old) (λ bytes. S.left source.new ≡ Some []) }
-    ensures done { is_race words.now.items ≡ false → result ≡ Status.Done → IfSome (S.left source.old) (λ bytes. Prints (input bytes) (K.written sink.old) (K.written sink.new)) }
-    ensures spelled { is_race words.now.items ≡ false → result ≡ Status.Done → IfSome (S.left source.old) (λ bytes. PrintsSpelled bytes (K.written sink.old) (K.written sink.new)) }
-
-    // For a race it is legal text for the trace: that of a legal history that merges the actors' lines.
-    ensures race_done { is_race words.now.items ≡ true → result ≡ Status.Done → IfSome (S.left source.old) (λ bytes. PrintsLegal (input bytes) (K.written sink.old) (K.written sink.new)) }
-    ensures race_spelled { is_race words.now.items ≡ true → result ≡ Status.Done → IfSome (S.left source.old) (λ bytes. PrintsLegalSpelled bytes (K.written sink.old) (K.written sink.new)) }
+    // At the end all was read, and what the command writes was written.
+    ensures read { IsEnded result → IfSome (command_of words.now.items) (λ c. IsReadUp c (S.left source.old) (S.left source.new)) }
+    ensures done { IsEnded result → IfSome (command_of words.now.items) (λ c. IfTold c (S.left source.old) (λ bytes. Wrote c bytes result (K.written sink.old) (K.written sink.new))) }
+    ensures differs { (entry : ℕ) → result ≡ Status.Differs entry → command_of words.now.items ≡ Some command.Check }
 
     // Each fault has its cause.
-    ensures bad { IfSome (S.left source.old) (NamesFault result) }
+    ensures bad { IfSome (command_of words.now.items) (λ c. IfTold c (S.left source.old) (NamesFault c result)) }
     ensures read_fault { result ≡ Status.ReadFault → Rose (S.faults source.old) (S.faults source.new) }
     ensures write_fault { result ≡ Status.WriteFault → Rose (K.faults sink.old) (K.faults sink.new) }
-    ensures write_fault_of { result ≡ Status.WriteFault → IfSome (S.left source.old) (λ bytes. IsOk (input bytes)) }
 
-    // With these words, and where no count rose, the run is done, or memory ran out, or the bytes are no trace.
-    ensures complete { (is_replay words.now.items ≡ true) ⊎ (is_race words.now.items ≡ true) → (Rose (S.faults source.old) (S.faults source.new) → ⊥) → (Rose (K.faults sink.old) (K.faults sink.new) → ⊥) → IsAnswered result }
+    // With words that are accepted, and where no count rose, the run came to its end, or memory ran out, or the bytes are no trace.
+    ensures complete { IfSome (command_of words.now.items) (λ c. (Rose (S.faults source.old) (S.faults source.new) → ⊥) → (Rose (K.faults sink.old) (K.faults sink.new) → ⊥) → IsAnswered result) }
 
-    // What was written is a beginning of the printed history, and nothing where there is none.
+    // At a failed write a beginning of it was written, and else nothing.
+    ensures part { result ≡ Status.WriteFault → IfSome (command_of words.now.items) (λ c. IfTold c (S.left source.old) (λ bytes. WroteInPart c bytes (K.written sink.old) (K.written sink.new))) }
     ensures silent { IsSilent result (K.written sink.old) (K.written sink.new) }
-    ensures part { is_race words.now.items ≡ false → IfSome (S.left source.old) (λ bytes. PrintsPart (input bytes) (K.written sink.old) (K.written sink.new)) }
-
-    // For a race it is a beginning of legal text, and nothing where memory ran out.
-    ensures race_part { is_race words.now.items ≡ true → result ≡ Status.WriteFault → IfSome (S.left source.old) (λ bytes. PrintsLegalPart (input bytes) (K.written sink.old) (K.written sink.new)) }
-    ensures race_unwritten { is_race words.now.items ≡ true → result ≡ Status.NoMemory → Grew (K.written sink.old) (K.written sink.new) [] }
 {
-    if is_race(words) {
-        run_race(rt, alloc, source, sink, gate)
-    } else {
-        run_plain(alloc, words, source, sink)
+    match read_words(words) {
+        Some(Command::Race) => run_race(rt, alloc, source, sink, gate),
+        _ => run_plain(alloc, words, source, sink),
     }
 }

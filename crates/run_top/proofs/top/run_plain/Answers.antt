@@ -1,16 +1,12 @@
-use Rattle.std.proofs.Common.{ℕ, sym, ◌∙◌, ap, subst}
-use Rattle.gcc_units.specs.Listed.{Listed}
-use Rattle.gcc_units.specs.declared.limits.TheConstants.{MOST_LINES}
-use Rattle.run_io.specs.Growth.{Grew}
-use Rattle.call_trace.specs.Reading.{trace_at}
-use Rattle.run_top.proofs.Serving.{printed}
+use Rattle.std.proofs.Common.{◌≡◌, ◌∙◌, ap, sym, subst, Option, Some, IfSome}
+use Rattle.run_top.specs.declared.words.Command.{Command}
+use Rattle.run_top.specs.declared.words.Command.TheVariants as command
+use Rattle.run_top.specs.Words.{◌>>=◌, unless_race, plain_command_of}
+use Rattle.run_top.specs.Outcome.{IfTold, WroteInPart}
 use Rattle.run_top.proofs.top.run_plain.Goals as goal
 
-pub returns-in-Ok-write_all-clause-part : goal.returns-in-Ok-write_all-clause-part
-returns-in-Ok-write_all-clause-part g c =
-    printed (g.S.Source.left c.args.source.now) c.in-Ok.bytes.items c.in-Ok-replay.text.items c.in-Ok-replay.ensures.text.0
-    (g.S.Source.left c.read_all.new.source) (g.K.Sink.written c.args.sink.now) (g.K.Sink.written c.write_all.new.sink)
-    c.in-Ok.ensures.all c.in-Ok.ensures.few
-    (ap (trace_at MOST_LINES) (sym c.as_slice.ensures.value) ∙ c.in-Ok-replay.ensures.text.1)
-    (ap (λ (v : Listed ℕ). v.items) c.in-Ok-replay.ensures.text.2)
-    (subst (Grew (g.K.Sink.written c.args.sink.now) (g.K.Sink.written c.write_all.new.sink)) c.as_slice-2.ensures.items c.in-Ok-write_all.ensures.all)
+pub returns-in-Some-Check-clause-part : goal.returns-in-Some-Check-clause-part
+returns-in-Some-Check-clause-part g c = λ is.
+    let asks : plain_command_of c.args.words.now.items ≡ Some command.Check = ap (λ (o : Option Command). o >>= unless_race) (sym c.read_words.ensures.asked ∙ (c.in-Some-Check.is ∙ ap Some c.in-Some-Check.field-0-is)) in
+    subst (λ (o : Option Command). IfSome o (λ d. IfTold d (g.S.Source.left c.args.source.now) (λ bytes. WroteInPart d bytes (g.K.Sink.written c.args.sink.now) (g.K.Sink.written c.run_check.new.sink))))
+    (sym asks) (c.run_check.ensures.part is)

@@ -8,11 +8,11 @@ use send_core::{ApplyFault, Call, Change, Sender};
 use std::alloc::Global;
 use std::test::Fail;
 
-const VIDEO: [u8; 20] = [
+pub(crate) const VIDEO: [u8; 20] = [
     0x90, 0x60, 0, 1, 0, 0, 0, 0, 0, 0, 0, 0xaa, 0xbe, 0xde, 0, 1, 0x31, 0, 0, 0,
 ];
 
-const AUDIO: [u8; 20] = [
+pub(crate) const AUDIO: [u8; 20] = [
     0x90, 0x6f, 0, 1, 0, 0, 0, 0, 0, 0, 0, 0xbb, 0xbe, 0xde, 0, 1, 0x31, 0, 0, 0,
 ];
 
@@ -44,33 +44,54 @@ fn large_video(alloc: Global) -> Result<Call, NoMemory> {
     enqueue(alloc, Class::Video, &wire)
 }
 
-// What the change names is the start, the greatest estimate or the window.
-fn configure(
-    alloc: Global,
-    at: u64,
-    start: Option<u64>,
-    max: Option<u64>,
-    window: Option<u64>,
-) -> Call {
-    Call::Configure {
-        at,
-        change: Change {
-            streams: Sequence::new(alloc),
-            removed: Sequence::new(alloc),
-            start,
-            min: None,
-            max,
-            pacing_percent: None,
-            window,
-            padding_rate: None,
-            paced_audio: None,
-            extension_id: None,
-            probe: None,
-        },
+/// One of the numbers that a change names.
+#[derive(Clone, Copy)]
+pub(crate) enum Key {
+    Start(u64),
+    Min(u64),
+    Max(u64),
+    PacingPercent(u64),
+    Window(u64),
+    PaddingRate(u64),
+    PacedAudio(bool),
+    Probe(u64),
+}
+
+fn set(change: &mut Change, key: Key) {
+    match key {
+        Key::Start(rate) => change.start = Some(rate),
+        Key::Min(rate) => change.min = Some(rate),
+        Key::Max(rate) => change.max = Some(rate),
+        Key::PacingPercent(percent) => change.pacing_percent = Some(percent),
+        Key::Window(time) => change.window = Some(time),
+        Key::PaddingRate(rate) => change.padding_rate = Some(rate),
+        Key::PacedAudio(is_paced) => change.paced_audio = Some(is_paced),
+        Key::Probe(rate) => change.probe = Some(rate),
     }
 }
 
-fn serve(sender: &mut Sender, alloc: Global, call: Call) -> Result<(), ApplyFault> {
+/// A call that changes what the keys name.
+pub(crate) fn configure(alloc: Global, at: u64, keys: &[Key]) -> Call {
+    let mut change = Change {
+        streams: Sequence::new(alloc),
+        removed: Sequence::new(alloc),
+        start: None,
+        min: None,
+        max: None,
+        pacing_percent: None,
+        window: None,
+        padding_rate: None,
+        paced_audio: None,
+        extension_id: None,
+        probe: None,
+    };
+    for key in keys {
+        set(&mut change, *key);
+    }
+    Call::Configure { at, change }
+}
+
+pub(crate) fn serve(sender: &mut Sender, alloc: Global, call: Call) -> Result<(), ApplyFault> {
     match sender.apply(alloc, 0, call) {
         Ok(_) => Ok(()),
         Err((fault, _)) => Err(fault),
@@ -84,7 +105,7 @@ fn media_over_a_lowered_rate(rt: HostRuntime) -> Result<(), Fail> {
     serve(
         &mut sender,
         alloc,
-        configure(alloc, 0, None, None, Some(500_000)),
+        configure(alloc, 0, &[Key::Window(500_000)]),
     )?;
     for _ in 0..3 {
         serve(&mut sender, alloc, large_video(alloc)?)?;
@@ -93,7 +114,7 @@ fn media_over_a_lowered_rate(rt: HostRuntime) -> Result<(), Fail> {
     serve(
         &mut sender,
         alloc,
-        configure(alloc, 10_001, None, Some(30_000), None),
+        configure(alloc, 10_001, &[Key::Max(30_000)]),
     )?;
     serve(&mut sender, alloc, Call::Pace { at: 37_991 })?;
     serve(&mut sender, alloc, Call::Pace { at: 37_992 })?;
@@ -141,7 +162,7 @@ fn cluster_of_a_first_start(rt: HostRuntime) -> Result<(), Fail> {
     serve(
         &mut sender,
         alloc,
-        configure(alloc, 0, Some(300_000), None, None),
+        configure(alloc, 0, &[Key::Start(300_000)]),
     )?;
     for at in [0, 2_275, 2_276] {
         serve(&mut sender, alloc, Call::Pace { at })?;

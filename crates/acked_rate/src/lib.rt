@@ -17,10 +17,12 @@ mod sums;
 
 use sums::{Span, Sum, take_in, total, widened};
 
-/// How far back the window goes from the newest arrival, in quarter-milliseconds: 500 ms.
+/// How far back the window goes from the newest arrival, in quarter-milliseconds: 500 ms
+/// (draft-ietf-rmcat-gcc-02, section 5.5, `T`).
 pub const WINDOW: i64 = 2_000;
 
-/// What a byte in the window adds to the rate, in bit/s: 8 bits twice a second.
+/// What a byte in the window adds to the rate, in bit/s: 8 bits twice a second (it follows from
+/// `WINDOW`).
 pub const RATE_OF_BYTE: u64 = 16;
 
 /// The most sums that a window keeps: one for each arrival in it.

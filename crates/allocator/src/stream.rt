@@ -4,10 +4,10 @@ ghost use Rattle.allocator.specs.Streams.{IsSound};
 use gcc_units::{Duplicate, NoMemory, Rate, Sequence};
 use std::alloc::Global;
 
-/// The least weight of a stream.
+/// The least weight of a stream (ours).
 pub const LEAST_WEIGHT: u32 = 1;
 
-/// The greatest weight of a stream.
+/// The greatest weight of a stream (ours).
 pub const GREATEST_WEIGHT: u32 = 1_000;
 
 /// A stream that gets a share of the target rate.

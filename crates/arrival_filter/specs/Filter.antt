@@ -7,7 +7,7 @@ use Rattle.fixed_math.specs.Power.{power_q30}
 use Rattle.fixed_math.specs.Root.{root}
 use Rattle.gcc_units.specs.declared.shared_types.Sample.{Sample}
 use Rattle.gcc_units.specs.declared.limits.TheConstants.{GREATEST_DELAY}
-use Rattle.arrival_filter.specs.declared.TheConstants.{START_ERROR, PROCESS_NOISE, LEAST_VARIANCE, GREATEST_VARIANCE, GREATEST_ERROR, KEPT_INTERVALS, LONGEST_INTERVAL, FORGETTING}
+use Rattle.arrival_filter.specs.declared.TheConstants.{START_ERROR, PROCESS_NOISE, LEAST_VARIANCE, GREATEST_VARIANCE, GREATEST_ERROR, KEPT_INTERVALS, LONGEST_INTERVAL, FORGETTING, MOST_DEVIATIONS}
 
 -- ---- the send intervals
 
@@ -29,9 +29,9 @@ least intervals = fold min LONGEST_INTERVAL intervals
 abbrev pub cut : ℤ → ℕ → ℤ
 cut z b = int_max (neg_ℤ (pos b)) (int_min z (pos b))
 
--- three times the root of the variance
+-- so many standard deviations
 abbrev pub bound_of : ℕ → ℕ
-bound_of variance = 3 * root (ONE_Q16 * variance)
+bound_of variance = MOST_DEVIATIONS * root (ONE_Q16 * variance)
 
 -- the square of a number in Q16
 abbrev pub square : ℤ → ℕ

@@ -17,29 +17,37 @@ use fixed_math::{ONE_Q16, ONE_Q30, isqrt, mul_q16, pow_q30};
 use gcc_units::{GREATEST_DELAY, MOST_PACKETS, Sample};
 use std::marker::Model;
 
-/// The error before the first sample, in Q16: 0.1 square millisecond.
+/// The error before the first sample, in Q16: 0.1 square millisecond (draft-ietf-rmcat-gcc-02,
+/// section 5.3, `e(0)`).
 pub const START_ERROR: u64 = 6_553;
 
-/// What each sample adds to the error, in Q16: 0.001 square millisecond.
+/// What each sample adds to the error, in Q16: 0.001 square millisecond (draft-ietf-rmcat-gcc-02,
+/// section 5.3, `q(i)`).
 pub const PROCESS_NOISE: u64 = 65;
 
-/// The least variance of the residual, in Q16, and the one before the first sample.
+/// The least variance of the residual, in Q16, and the one before the first sample: 1 square
+/// millisecond (draft-ietf-rmcat-gcc-02, section 5.3).
 pub const LEAST_VARIANCE: u64 = 65_536;
 
-/// The greatest variance that residuals can lead to, in Q16: 20,000 ms squared.
+/// The greatest variance that residuals can lead to, in Q16: 20,000 ms squared (it follows from
+/// `GREATEST_DELAY`).
 pub const GREATEST_VARIANCE: u64 = 26_214_400_000_000;
 
 /// The greatest error that the samples of one filter can lead to, in Q16.
 pub const GREATEST_ERROR: u64 = START_ERROR + PROCESS_NOISE * MOST_PACKETS as u64;
 
-/// How many of the last send intervals are kept.
+/// How many of the last send intervals are kept (draft-ietf-rmcat-gcc-02, section 5.3, `K`).
 pub const KEPT_INTERVALS: usize = 5;
 
-/// The longest send interval that is told apart, in milliseconds.
+/// The longest send interval that is told apart, in milliseconds (ours).
 pub const LONGEST_INTERVAL: u64 = 10_000;
 
-/// What a millisecond leaves of the old variance, in Q30.
+/// What a millisecond leaves of the old variance, in Q30: 0.99 to the power of 30/1000
+/// (draft-ietf-rmcat-gcc-02, section 5.3, `chi` of 0.01).
 pub const FORGETTING: u64 = 1_073_418_129;
+
+/// A residual counts up to so many standard deviations (draft-ietf-rmcat-gcc-02, section 5.3).
+pub const MOST_DEVIATIONS: u64 = 3;
 
 /// The filter's state after the samples given so far.
 #[derive(Drop)]
@@ -87,7 +95,7 @@ impl Filter {
         let interval = (sample.send_gap / 1_000).min(LONGEST_INTERVAL) as u32;
         keep(&mut self.intervals, interval);
         let alpha = pow_q30(FORGETTING, least_of(&self.intervals));
-        let bound = 3 * isqrt(ONE_Q16 as u64 * self.variance);
+        let bound = MOST_DEVIATIONS * isqrt(ONE_Q16 as u64 * self.variance);
         let residual = cut_to(sample.d - self.mean, bound);
         self.variance = variance_after(alpha, self.variance, residual);
         let gain = gain_of(self.error, self.variance);

@@ -8,6 +8,7 @@ use Rattle.rand_xoshiro.specs.Xoshiro256.{plus_plus, of_seed}
 use Rattle.twcc_report.specs.declared.report.Status.{Status}
 use Rattle.twcc_report.specs.declared.report.Status.TheVariants.{NotReceived, Small, Large}
 use Rattle.twcc_report.specs.Spelling.{Feedback}
+use Rattle.gcc_units.specs.declared.limits.TheConstants.{ARRIVAL_MICROSECONDS}
 
 -- ---- words
 
@@ -27,7 +28,7 @@ words_after (suc n) words = (next_u64 (words_after n words)).1
 
 -- 20 ms on the way, and the jitter of up to 15 quarter-milliseconds that the word adds; one of 64 packets is lost
 abbrev pub fastest : ℕ → ℕ
-fastest sent_at = sent_at / 250 + 80
+fastest sent_at = sent_at / ARRIVAL_MICROSECONDS + 80
 
 abbrev pub arrival : ℕ → ℕ → Option ℕ
 arrival sent_at word = if word / 2 ^ 32 % 64 == 0 then None else Some (fastest sent_at + word % 16)

@@ -20,6 +20,7 @@ use Rattle.call_trace.specs.declared.trace.Line.{Line}
 use Rattle.call_trace.specs.Plain.{Plain}
 use Rattle.call_trace.specs.MadePackets.{audio_packet, video_packet, frame_packets, packet_bytes}
 use Rattle.call_trace.specs.MadeReports.{words_of, words_after, report}
+use Rattle.gcc_units.specs.declared.limits.TheConstants.{MOST_STATUSES}
 
 -- ---- what a history tells
 
@@ -113,7 +114,7 @@ abbrev pub untold : Making → List ℕ
 untold m = drop m.covered (moments m.history)
 
 abbrev pub uncovered : Making → List ℕ
-uncovered m = take 65535 (untold m)
+uncovered m = take MOST_STATUSES (untold m)
 
 abbrev pub report_bytes : Making → List ℕ
 report_bytes m = canonical (report m.words (count_of is_report m.history) m.covered (uncovered m))

@@ -7,7 +7,7 @@ ghost use Rattle.twcc_report.specs.Spelling.{view};
 ghost use Rattle.twcc_report.specs.Canonical.{canonical};
 ghost use Rattle.call_trace.specs.MadeReports.{words_at, words_after, fastest, arrival, arrivals, first_or, status, statuses, report, IsNear, AreNear};
 
-use gcc_units::{Bytes, Moment, NoMemory};
+use gcc_units::{ARRIVAL_MICROSECONDS, Bytes, Moment, NoMemory};
 use rand_core::Rng;
 use rand_xoshiro::Xoshiro256PlusPlus;
 use std::alloc::Global;
@@ -17,7 +17,7 @@ use twcc_report::{Report, Status, StatusList, write_report};
 fn fastest(sent_at: Moment) -> u64
     ensures { result ≡ fastest sent_at }
 {
-    sent_at / 250 + 80
+    sent_at / ARRIVAL_MICROSECONDS + 80
 }
 
 /// When a packet arrives by its word; `None` where it is not received.

@@ -13,14 +13,11 @@ use crate::made_packets::{audio_packet, frame, video_packet};
 use crate::made_reports::report_bytes;
 use crate::trace::{Action, Line, LineList, Trace};
 use allocator::{Stream, StreamList};
-use gcc_units::{Class, IdList, MOST_ACTORS, MOST_LINES, Moment, NoMemory};
+use gcc_units::{Class, IdList, MOST_ACTORS, MOST_LINES, MOST_STATUSES, Moment, NoMemory};
 use rand_core::SeedableRng;
 use rand_xoshiro::Xoshiro256PlusPlus;
 use send_core::{ApplyFault, Call, Change, Entry, Journal, Reply, Sender};
 use std::alloc::Global;
-
-/// The most packets that a report tells of.
-const MOST_STATUSES: usize = 65_535;
 
 /// A sender in use, and what is counted of its calls.
 #[derive(Drop)]
@@ -266,7 +263,10 @@ impl Maker {
         if !self.is_report_due(t) {
             return Ok(());
         }
-        let end = self.moments.len().min(self.covered + MOST_STATUSES);
+        let end = self
+            .moments
+            .len()
+            .min(self.covered + MOST_STATUSES as usize);
         let uncovered = &self.moments[self.covered..end];
         let bytes = report_bytes(
             alloc,

@@ -2,7 +2,7 @@
 use Rattle.std.proofs.Common.{ℕ, ◌≡◌, ◌+◌, ◌≤◌, ◌<◌, List, [], ◌∷◌, ◌++◌, length, length-append, take, map, Option, unwrap_or, All, ap, ◌∙◌, sym, subst, arith}
 use Rattle.std.proofs.lemmas.List.{length-take-le, length-map, map-append}
 use Rattle.std.proofs.lemmas.List.Elements.{All-append, All-cons, All-nil, All-take, All-map}
-use Rattle.gcc_units.specs.declared.limits.TheConstants.{GREATEST_MOMENT}
+use Rattle.gcc_units.specs.declared.limits.TheConstants.{GREATEST_MOMENT, MOST_STATUSES}
 use Rattle.gcc_units.specs.declared.shared_types.Bounds.{Bounds}
 use Rattle.gcc_units.specs.declared.shared_types.Credit.{Credit}
 use Rattle.gcc_units.specs.declared.shared_types.Signal.{Signal}
@@ -14,7 +14,6 @@ use Rattle.acked_rate.specs.Received.{Add, acked}
 use Rattle.acked_rate.specs.Kept as windowed
 use Rattle.rate_control.specs.declared.state.State as control_state
 use Rattle.rate_control.specs.Steps as control
-use Rattle.loss_control.specs.declared.TheConstants.{MOST_COUNT}
 use Rattle.loss_control.specs.declared.step.State as loss_state
 use Rattle.loss_control.specs.Rule as loss_rule
 use Rattle.loss_control.specs.Given as counted
@@ -94,7 +93,7 @@ stands_set v e start bounds d l s ed el reports = record {
 }
 
 module _ (v : Values) (e : Est) (received : List Credit) (missing now : ℕ) (bounds : Bounds) (results : List Outcome) (s : StandsFor v e)
-    (ranges : All IsInRange received) (few : length received ≤ MOST_COUNT) (few_missing : missing ≤ MOST_COUNT) where
+    (ranges : All IsInRange received) (few : length received ≤ MOST_STATUSES) (few_missing : missing ≤ MOST_STATUSES) where
   abbrev counts : loss_rule.Counts
   counts = record { received = length received; missing = missing }
 

@@ -1,7 +1,7 @@
 -- What an estimator keeps, what it stands for, and which reports it may be given.
 use Rattle.std.specs.Prelude.{◌≡◌, ℕ, ◌+◌, ◌≤◌, ◌<◌, List, length, map, All}
 use Rattle.std.specs.Option.{ForSome}
-use Rattle.gcc_units.specs.declared.limits.TheConstants.{MOST_PACKETS}
+use Rattle.gcc_units.specs.declared.limits.TheConstants.{MOST_PACKETS, MOST_REPORTS}
 use Rattle.gcc_units.specs.declared.shared_types.Bounds.{Bounds}
 use Rattle.gcc_units.specs.declared.shared_types.Credit.{Credit}
 use Rattle.gcc_units.specs.declared.shared_types.Signal.{Signal}
@@ -11,7 +11,6 @@ use Rattle.arrival_filter.specs.Filter as filtered
 use Rattle.overuse.specs.Detector as detected
 use Rattle.acked_rate.specs.Kept as windowed
 use Rattle.rate_control.specs.declared.state.State as control_state
-use Rattle.loss_control.specs.declared.TheConstants.{MOST_REPORTS}
 use Rattle.loss_control.specs.declared.step.State as loss_state
 use Rattle.loss_control.specs.Rule.{Counts}
 use Rattle.loss_control.specs.Given as counted

@@ -2,7 +2,8 @@
 
 use gcc_units::{Rate, Signal};
 
-/// The round-trip time before the first packet was received, in microseconds (this project's own value).
+/// The round-trip time before the first packet was received, in microseconds (`kDefaultRtt` of
+/// libwebrtc).
 pub const START_ROUND_TRIP: u64 = 200_000;
 
 /// The estimates, and what they rest on.

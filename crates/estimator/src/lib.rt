@@ -19,8 +19,8 @@ ghost use Rattle.estimator.specs.Kept.{StandsFor, TakesReport, IsInRange, AreRat
 
 use acked_rate::Window;
 use arrival_filter::Filter;
-use gcc_units::{Bounds, GREATEST_MOMENT, Judged, Moment, NoMemory, Rate, Signal};
-use loss_control::{Loss, MOST_COUNT};
+use gcc_units::{Bounds, GREATEST_MOMENT, Judged, MOST_STATUSES, Moment, NoMemory, Rate, Signal};
+use loss_control::Loss;
 use overuse::Detector;
 use packet_groups::Groups;
 use probe_clusters::Clusters;
@@ -103,8 +103,8 @@ impl Estimator {
     ) -> Estimate
         requires moment { now ≤ GREATEST_MOMENT }
         requires bounds { IsBounds bounds }
-        requires received { length judged.now.received.items ≤ MOST_COUNT }
-        requires missing { judged.now.missing ≤ MOST_COUNT }
+        requires received { length judged.now.received.items ≤ MOST_STATUSES }
+        requires missing { judged.now.missing ≤ MOST_STATUSES }
         requires ranges { All IsInRange judged.now.received.items }
         requires sent { All (IsSentBy now) judged.now.received.items }
         requires report { TakesReport self.old (length judged.now.received.items) now }

@@ -48,6 +48,25 @@ pub const MOST_CLUSTERS: u32 = 16;
 /// The most entries of a journal.
 pub const MOST_ENTRIES: u32 = 200_000;
 
+/// What a byte takes of a level, in micro-bits: eight bits of 1,000,000 each. A rate in bit/s times
+/// a time in microseconds is a level too.
+pub const BYTE: u64 = 8_000_000;
+
+/// A quarter-millisecond, the unit of arrivals, in microseconds
+/// (draft-holmer-rmcat-transport-wide-cc-extensions-01, section 3.1).
+pub const ARRIVAL_MICROSECONDS: u64 = 250;
+
+/// The most statuses of a feedback report, whose count has 16 bits
+/// (draft-holmer-rmcat-transport-wide-cc-extensions-01, section 3.1).
+pub const MOST_STATUSES: u32 = 65_535;
+
+/// The most feedback reports that one object is given: 2^20 (ours).
+pub const MOST_REPORTS: u32 = 1_048_576;
+
+/// How many lengths of a history a board can tell apart, 2^20: a board is the length and so many
+/// times what else is shown (ours).
+pub const BOARD_LENGTHS: u64 = 1_048_576;
+
 /// The most packets, credits or samples that one object is given: 2^27.
 pub const MOST_PACKETS: u32 = 134_217_728;
 

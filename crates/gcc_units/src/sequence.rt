@@ -156,6 +156,14 @@ impl<T> Sequence<T> {
         self.room = 0;
     }
 
+    /// Gives up the promise of room, and the memory that no item uses.
+    pub fn trim(&mut self)
+        ensures { self.new ≡ bare self.old.items }
+    {
+        self.settle();
+        self.held.shrink_to_fit();
+    }
+
     /// The list of a vector's items, with no promise of room.
     pub fn from_vec(items: Vec<T>) -> Self
         requires { vec_len items < 2 ^ 32 }
@@ -177,10 +185,11 @@ impl<T> Sequence<T> {
 }
 
 impl<T: Copy> Sequence<T> {
-    /// Puts the items at the end of another list, which has room for them.
+    /// Puts the items at the end of another list, which has room for them and has so much less then.
     pub fn fill(&self, other: &mut Sequence<T>)
         requires { length self.now.items ≤ other.old.spare }
-        ensures { other.new.items ≡ other.old.items ++ self.now.items }
+        ensures items { other.new.items ≡ other.old.items ++ self.now.items }
+        ensures spare { other.new.spare ≡ other.old.spare - length self.now.items }
     {
         for item in self.as_slice() {
             other.put(*item);

@@ -3,10 +3,10 @@ use Rattle.std.proofs.Common.{◌≡◌, ℕ, ◌+◌, ◌*◌, ◌≤◌, ◌<�
 use Rattle.std.proofs.lemmas.List.{append-nil}
 use Rattle.std.proofs.lemmas.List.Sums.{sum_by-append, sum_by-le}
 use Rattle.gcc_units.specs.declared.shared_types.Bounds.{Bounds}
-use Rattle.loss_control.specs.declared.TheConstants.{MOST_COUNT}
 use Rattle.loss_control.specs.declared.step.State.{State}
 use Rattle.loss_control.specs.Rule.{Counts, after, gathered, renewed, in_bounds, is_due}
 use Rattle.loss_control.specs.Given.{StandsFor, TakesReport}
+use Rattle.gcc_units.specs.declared.limits.TheConstants.{MOST_STATUSES}
 
 gathered-stands : (s : State) (c : Counts) (since : ℕ) (reports : List Counts) → StandsFor s reports → StandsFor (gathered s c since) (reports ++ c ∷ [])
 gathered-stands s c since reports stands = record {
@@ -35,15 +35,15 @@ after-stands s c now bounds reports stands =
     let g : State = gathered s c since in
     judged-stands g now bounds (is_due since now (g.received + g.missing)) (reports ++ c ∷ []) (gathered-stands s c since reports stands)
 
-few-of : (f : Counts → ℕ) (all judged gathered : List Counts) → all ≡ judged ++ gathered → All (λ c. f c ≤ MOST_COUNT) all → sum_by f gathered ≤ length all * MOST_COUNT
+few-of : (f : Counts → ℕ) (all judged gathered : List Counts) → all ≡ judged ++ gathered → All (λ c. f c ≤ MOST_STATUSES) all → sum_by f gathered ≤ length all * MOST_STATUSES
 few-of f all judged gathered split low =
-    omega (arith, sum_by-le f MOST_COUNT all low, ap (sum_by f) split, sum_by-append f judged gathered)
+    omega (arith, sum_by-le f MOST_STATUSES all low, ap (sum_by f) split, sum_by-append f judged gathered)
 
 -- the counts of fewer reports than the most are few
 pub counts-few : (s : State) → TakesReport s → (s.received < 2 ^ 40) × (s.missing < 2 ^ 40)
 counts-few s (reports, stands, counts, few) =
-    let received : sum_by (λ (c : Counts). c.received) stands.gathered ≤ length reports * MOST_COUNT =
+    let received : sum_by (λ (c : Counts). c.received) stands.gathered ≤ length reports * MOST_STATUSES =
     few-of (λ (c : Counts). c.received) reports stands.judged stands.gathered stands.split (λ k d l. (counts k d l).received) in
-    let missing : sum_by (λ (c : Counts). c.missing) stands.gathered ≤ length reports * MOST_COUNT =
+    let missing : sum_by (λ (c : Counts). c.missing) stands.gathered ≤ length reports * MOST_STATUSES =
     few-of (λ (c : Counts). c.missing) reports stands.judged stands.gathered stands.split (λ k d l. (counts k d l).missing) in
     (rw stands.received (omega arith), rw stands.missing (omega arith))

@@ -1,8 +1,8 @@
 -- The reports that loss control was given.
 use Rattle.std.specs.Prelude.{◌≡◌, ◌≤◌, ◌<◌, List, ◌++◌, length, sum_by, All}
-use Rattle.loss_control.specs.declared.TheConstants.{MOST_COUNT, MOST_REPORTS}
 use Rattle.loss_control.specs.declared.step.State.{State}
 use Rattle.loss_control.specs.Rule.{Counts}
+use Rattle.gcc_units.specs.declared.limits.TheConstants.{MOST_REPORTS, MOST_STATUSES}
 
 -- Of these reports, the last ones are gathered.
 pub record StandsFor (s : State) (reports : List Counts) : Type 0 where
@@ -14,8 +14,8 @@ pub record StandsFor (s : State) (reports : List Counts) : Type 0 where
 
 -- No more packets than a report has.
 pub record IsCounts (c : Counts) : Type 0 where
-  pub received : c.received ≤ MOST_COUNT
-  pub missing : c.missing ≤ MOST_COUNT
+  pub received : c.received ≤ MOST_STATUSES
+  pub missing : c.missing ≤ MOST_STATUSES
 
 -- It was given fewer reports than the most.
 abbrev pub TakesReport : State → Type 0

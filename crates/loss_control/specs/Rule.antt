@@ -2,7 +2,7 @@
 use Rattle.std.specs.Prelude.{ℕ, ◌+◌, ◌-◌, ◌*◌, ◌/◌, Bool, ◌&&◌, nat_le, nat_lt, if◌then◌else◌, Some, None, unwrap_or}
 use Rattle.gcc_units.specs.declared.shared_types.Bounds.{Bounds}
 use Rattle.gcc_units.specs.Rates.{bounded}
-use Rattle.loss_control.specs.declared.TheConstants.{LOSS_PERIOD, FEWEST_PACKETS}
+use Rattle.loss_control.specs.declared.TheConstants.{LOSS_PERIOD, FEWEST_PACKETS, HIGH_LOSS, LOW_LOSS, RAISED_PERCENT, ALL_PERCENT}
 use Rattle.loss_control.specs.declared.step.State.{State}
 
 -- what a report tells: the packets that are credited, and those that are missing
@@ -20,8 +20,8 @@ is_due since now total = nat_le (since + LOSS_PERIOD) now && nat_le FEWEST_PACKE
 -- Where more than a tenth is missing, half of the missing part is taken off. Where less than a fiftieth is, a twentieth is added.
 abbrev pub judged : ℕ → ℕ → ℕ → ℕ
 judged rate total missing =
-    if nat_lt total (10 * missing) then rate * (2 * total - missing) / (2 * total)
-    else (if nat_lt (50 * missing) total then 105 * rate / 100 else rate)
+    if nat_lt total (HIGH_LOSS * missing) then rate * (2 * total - missing) / (2 * total)
+    else (if nat_lt (LOW_LOSS * missing) total then RAISED_PERCENT * rate / ALL_PERCENT else rate)
 
 -- a state with the counts of a report, gathered from this moment on
 abbrev pub gathered : State → Counts → ℕ → State

@@ -10,24 +10,33 @@ ghost use Rattle.gcc_units.specs.Rates.{IsRate, IsBounds, IsInBounds, bounded};
 ghost use Rattle.loss_control.specs.Rule.{Counts, begun, after, with_estimate};
 ghost use Rattle.loss_control.specs.Given.{StandsFor, TakesReport};
 
-use gcc_units::{Bounds, Moment, Rate};
+use gcc_units::{Bounds, MOST_STATUSES, Moment, Rate};
 use std::marker::Model;
 
 mod step;
 
 use step::{State, after, bounded};
 
-/// How long counts are gathered at least before they are judged, in microseconds.
+/// How long counts are gathered at least before they are judged, in microseconds (ours).
 pub const LOSS_PERIOD: u64 = 1_000_000;
 
-/// How many packets are gathered at least before they are judged.
+/// How many packets are gathered at least before they are judged (ours; `kLimitNumPackets` of
+/// libwebrtc).
 pub const FEWEST_PACKETS: u64 = 20;
 
-/// The most packets that one report tells to be received, and the most that it tells to be missing.
-pub const MOST_COUNT: u32 = 65_535;
+/// The estimate falls where more than one packet of so many is missing
+/// (draft-ietf-rmcat-gcc-02, section 6: a loss above 0.1).
+pub const HIGH_LOSS: u64 = 10;
 
-/// The most reports whose counts are gathered: 2^20.
-pub const MOST_REPORTS: u32 = 1_048_576;
+/// The estimate rises where fewer than one packet of so many are missing
+/// (draft-ietf-rmcat-gcc-02, section 6: a loss below 0.02).
+pub const LOW_LOSS: u64 = 50;
+
+/// What the estimate rises to, in percent (draft-ietf-rmcat-gcc-02, section 6: 1.05).
+pub const RAISED_PERCENT: u64 = 105;
+
+/// The whole, in percent.
+pub const ALL_PERCENT: u64 = 100;
 
 /// The estimate of loss control, and the counts that are gathered for its next change.
 #[derive(Drop)]
@@ -65,8 +74,8 @@ impl Loss {
 
     /// Takes the counts of a report at a moment, and answers the estimate after them.
     pub fn step(&mut self, received: u32, missing: u32, now: Moment, bounds: Bounds) -> Rate
-        requires received { received ≤ MOST_COUNT }
-        requires missing { missing ≤ MOST_COUNT }
+        requires received { received ≤ MOST_STATUSES }
+        requires missing { missing ≤ MOST_STATUSES }
         requires bounds { IsBounds bounds }
         requires few { TakesReport self.old }
         ensures state { self.new ≡ after self.old (record { received = received; missing = missing }) now bounds }

@@ -4,7 +4,7 @@ ghost use Rattle.std.specs.Prelude.{◌≡◌, ◌≤◌, ◌<◌, ◌+◌, ◌^
 ghost use Rattle.gcc_units.specs.Rates.{IsRate, IsBounds, IsInBounds, bounded};
 ghost use Rattle.loss_control.specs.Rule.{after, judged, is_due};
 
-use crate::{FEWEST_PACKETS, LOSS_PERIOD};
+use crate::{ALL_PERCENT, FEWEST_PACKETS, HIGH_LOSS, LOSS_PERIOD, LOW_LOSS, RAISED_PERCENT};
 use gcc_units::{Bounds, GREATEST_RATE, Moment, Rate};
 
 /// The estimate, the counts that are gathered, and the moment from which on they are.
@@ -60,11 +60,11 @@ fn judged(rate: Rate, total: u64, missing: u64) -> Rate
     requires few { total < 2 ^ 50 }
     ensures { result ≡ judged rate total missing }
 {
-    if 10 * missing > total {
+    if HIGH_LOSS * missing > total {
         let kept = u128::from(2 * total - missing);
         (u128::from(rate) * kept / u128::from(2 * total)) as u64
-    } else if 50 * missing < total {
-        105 * rate / 100
+    } else if LOW_LOSS * missing < total {
+        RAISED_PERCENT * rate / ALL_PERCENT
     } else {
         rate
     }

@@ -13,31 +13,39 @@ ghost use Rattle.overuse.specs.Given.{StandsFor, StandsForRoom, TimesStayLow};
 use gcc_units::{Sample, Signal};
 use std::marker::Model;
 
-/// The threshold before the first sample, in Q16: 12.5 ms.
+/// The threshold before the first sample, in Q16 milliseconds: 12.5 ms (draft-ietf-rmcat-gcc-02,
+/// section 5.4, `del_var_th(0)`).
 pub const START_THRESHOLD: i64 = 819_200;
 
-/// The least threshold, in Q16: 6 ms.
+/// The least threshold, in Q16 milliseconds: 6 ms (draft-ietf-rmcat-gcc-02, section 5.4).
 pub const LEAST_THRESHOLD: i64 = 393_216;
 
-/// The greatest threshold, in Q16: 600 ms.
+/// The greatest threshold, in Q16 milliseconds: 600 ms (draft-ietf-rmcat-gcc-02, section 5.4).
 pub const GREATEST_THRESHOLD: i64 = 39_321_600;
 
-/// How far above the threshold a mean may lie that moves it, in Q16: 15 ms.
+/// How far above the threshold a mean may lie that moves it, in Q16 milliseconds: 15 ms
+/// (draft-ietf-rmcat-gcc-02, section 5.4; `kMaxAdaptOffsetMs` of libwebrtc).
 pub const GREATEST_EXCESS: i64 = 983_040;
 
-/// How long the mean must lie above the threshold before the signal is `Over`, in microseconds.
+/// How long the mean must lie above the threshold before the signal is `Over`, in microseconds
+/// (draft-ietf-rmcat-gcc-02, section 5.4, `overuse_time_th`; `kOverUsingTimeThreshold` of
+/// libwebrtc).
 pub const OVERUSE_TIME: u64 = 10_000;
 
-/// The longest arrival gap that counts for the threshold, in quarter-milliseconds.
+/// The longest arrival gap that moves the threshold, in quarter-milliseconds: 100 ms
+/// (`kMaxTimeDeltaMs` of libwebrtc).
 pub const LONGEST_GAP: i64 = 400;
 
-/// How fast the threshold falls towards a mean below it, in 1/100,000 for each millisecond.
+/// How fast the threshold falls towards a mean below it, in 1/100,000 for each millisecond
+/// (draft-ietf-rmcat-gcc-02, section 5.4, `K_d`; libwebrtc's `k_down_` is 0.039).
 pub const FALLING_GAIN: i64 = 18;
 
-/// How fast the threshold rises towards a mean above it, in 1/100,000 for each millisecond.
+/// How fast the threshold rises towards a mean above it, in 1/100,000 for each millisecond
+/// (draft-ietf-rmcat-gcc-02, section 5.4, `K_u`; libwebrtc's `k_up_` is 0.0087).
 pub const RISING_GAIN: i64 = 1_000;
 
-/// The gain's unit for each quarter-millisecond.
+/// What a gain is divided by for each quarter-millisecond of the arrival gap: 100,000 times four
+/// (ours).
 pub const GAIN_UNIT: i64 = 400_000;
 
 /// The detector's state after the samples given so far.

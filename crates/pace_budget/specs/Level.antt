@@ -1,7 +1,7 @@
 -- The level of a bucket, as the least over all times from which it may have been filled.
 use Rattle.std.specs.Prelude.{◌≡◌, ◌⊎◌, ℕ, ℤ, pos, negsuc, neg_ℤ, ◌*◌, ◌+ℤ◌, ◌-ℤ◌, ◌≤ℤ◌, min, List, [], ◌∷◌, fold, All, Contains}
 use Rattle.std.specs.Int.{int_min}
-use Rattle.gcc_units.specs.declared.limits.TheConstants.{GREATEST_RATE}
+use Rattle.gcc_units.specs.declared.limits.TheConstants.{GREATEST_RATE, BYTE}
 use Rattle.pace_budget.specs.declared.bucket.TheConstants.{GREATEST_WINDOW}
 
 -- What is done to a bucket. Time passes at a rate and under a window; a packet is sent for which the
@@ -13,7 +13,7 @@ pub data Deed : Type 0 where
 
 -- a size in micro-bits
 abbrev pub bits : ℕ → ℤ
-bits size = pos (8000000 * size)
+bits size = pos (BYTE * size)
 
 -- what a deed brings, below 0 where it takes
 abbrev pub flow : Deed → ℤ
@@ -59,7 +59,7 @@ whole (negsuc n) = 0
 
 -- what a soft spend takes: the lesser of the size and of what stands above the floor
 abbrev pub soft_amount : ℤ → ℕ → ℤ → ℕ
-soft_amount now size floor = min (8000000 * size) (whole (now -ℤ floor))
+soft_amount now size floor = min (BYTE * size) (whole (now -ℤ floor))
 
 -- the most that a level may hold, and the most that it may lack
 abbrev pub full : ℤ

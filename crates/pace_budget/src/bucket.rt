@@ -2,14 +2,11 @@ ghost use Rattle.std.specs.Prelude.{◌≡◌, ◌↔◌, ◌*◌, ◌≤◌, �
 ghost use Rattle.std.specs.Int.{int_min, int_max};
 ghost use Rattle.pace_budget.specs.Level.{Deed, Advance, Spend, Soft, bits, full, soft_amount, StandsFor};
 
-use gcc_units::{GREATEST_MOMENT, GREATEST_PACKET, GREATEST_RATE, Level, Rate};
+use gcc_units::{BYTE, GREATEST_MOMENT, GREATEST_PACKET, GREATEST_RATE, Level, Rate};
 use std::marker::Model;
 
 /// The longest window of a budget, in microseconds (this project's own limit).
 pub const GREATEST_WINDOW: u64 = 500_000;
-
-// A byte in micro-bits.
-const BYTE: i128 = 8_000_000;
 
 /// The level of a budget.
 #[derive(Drop)]
@@ -104,5 +101,5 @@ fn bits_of(size: u32) -> Level
     requires { size ≤ GREATEST_PACKET }
     ensures { result ≡ bits size }
 {
-    BYTE * i128::from(size)
+    i128::from(BYTE) * i128::from(size)
 }

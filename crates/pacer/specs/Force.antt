@@ -1,6 +1,6 @@
 -- The rate in force: the pacing rate, or what drains the queue in time.
 use Rattle.std.specs.Prelude.{ℕ, ◌+◌, ◌-◌, ◌*◌, ◌/◌, min, max, List, [], ◌∷◌, length, sum_by}
-use Rattle.gcc_units.specs.declared.limits.TheConstants.{GREATEST_RATE}
+use Rattle.gcc_units.specs.declared.limits.TheConstants.{GREATEST_RATE, BYTE}
 use Rattle.pace_queues.specs.declared.ticket.Ticket.{Ticket}
 use Rattle.pace_queues.specs.Waiting.{size_of}
 use Rattle.pacer.specs.declared.force.TheConstants.{DRAIN_TIME, LEAST_DRAIN_TIME}
@@ -20,7 +20,7 @@ ceiling a b = (a + (b - 1)) / b
 -- the rate that sends all that waits before the average packet has waited for the drain time
 abbrev pub drain : ℕ → List Ticket → ℕ
 drain moment [] = 0
-drain moment (t ∷ ts) = ceiling (8000000 * sum_by size_of (t ∷ ts)) (max LEAST_DRAIN_TIME (DRAIN_TIME - waited moment (t ∷ ts)))
+drain moment (t ∷ ts) = ceiling (BYTE * sum_by size_of (t ∷ ts)) (max LEAST_DRAIN_TIME (DRAIN_TIME - waited moment (t ∷ ts)))
 
 -- the rate in force at a moment, with this pacing rate and these packets waiting
 unfoldable pub in_force : ℕ → ℕ → List Ticket → ℕ

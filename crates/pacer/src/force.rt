@@ -5,17 +5,15 @@ ghost use Rattle.pace_queues.specs.Waiting.{size_of, accepted_at_of};
 ghost use Rattle.pacer.specs.Force.{ceiling, drain, in_force, waited};
 ghost use Rattle.pacer.specs.State.{IsDue};
 
-use gcc_units::{GREATEST_MOMENT, GREATEST_RATE, Moment, Rate};
+use gcc_units::{BYTE, GREATEST_MOMENT, GREATEST_RATE, Moment, Rate};
 use pace_queues::Queues;
 
-/// What waits is sent before it has waited for so long on average, in microseconds.
+/// What waits is sent before it has waited for so long on average, in microseconds
+/// (`kMaxExpectedQueueLength` of libwebrtc).
 pub const DRAIN_TIME: u64 = 2_000_000;
 
-/// The least time in which the queue is drained, in microseconds.
+/// The least time in which the queue is drained, in microseconds (libwebrtc: 1 ms).
 pub const LEAST_DRAIN_TIME: u64 = 1_000;
-
-// A byte in micro-bits.
-const BYTE: u64 = 8_000_000;
 
 /// The rate in force: the pacing rate, or what drains the queue in time, at most `GREATEST_RATE`.
 pub fn in_force(pacing: Rate, moment: Moment, queues: &Queues) -> Rate

@@ -2,13 +2,13 @@
 
 use gcc_units::Rate;
 
-/// The pacing rate that a pacer begins with, in bit/s.
+/// The pacing rate that a pacer begins with, in bit/s: that of a sender's first target (ours).
 pub const START_PACING: Rate = 750_000;
 
-/// The window that a pacer begins with, in microseconds.
+/// The window that a pacer begins with, in microseconds (ours; libwebrtc sends each 5 ms).
 pub const START_WINDOW: u64 = 5_000;
 
-/// The padding rate that a pacer begins with, in bit/s.
+/// The padding rate that a pacer begins with, in bit/s (ours).
 pub const START_PADDING: Rate = 0;
 
 /// What is asked of a pacer.

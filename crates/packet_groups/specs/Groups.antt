@@ -4,8 +4,8 @@ use Rattle.std.specs.List.{list_all}
 use Rattle.std.specs.Int.{int_min, int_max}
 use Rattle.gcc_units.specs.declared.shared_types.Credit.{Credit}
 use Rattle.gcc_units.specs.declared.shared_types.Sample.{Sample}
-use Rattle.gcc_units.specs.declared.limits.TheConstants.{GREATEST_DELAY}
-use Rattle.packet_groups.specs.declared.TheConstants.{GROUP_TIME, BURST_GAP, ARRIVAL_MICROSECONDS, ARRIVAL_Q16, MILLISECOND_Q16}
+use Rattle.gcc_units.specs.declared.limits.TheConstants.{GREATEST_DELAY, ARRIVAL_MICROSECONDS}
+use Rattle.packet_groups.specs.declared.TheConstants.{GROUP_TIME, BURST_GAP, ARRIVAL_Q16, MILLISECOND_Q16}
 use Rattle.packet_groups.specs.declared.step.Point.{Point}
 use Rattle.packet_groups.specs.declared.step.Group.{Group}
 
@@ -33,7 +33,7 @@ end_of c = record { sent_at = c.sent_at; arrival = c.arrival }
 
 -- It arrives sooner after the last packet than it was sent after it, and soon.
 abbrev pub is_burst : ℤ → ℕ → Bool
-is_burst arrival_gap send_gap = int_lt arrival_gap BURST_GAP && int_lt (ARRIVAL_MICROSECONDS *ℤ arrival_gap) (pos send_gap)
+is_burst arrival_gap send_gap = int_lt arrival_gap BURST_GAP && int_lt (pos ARRIVAL_MICROSECONDS *ℤ arrival_gap) (pos send_gap)
 
 -- It was sent soon after the group's first packet, or is one burst with the last one.
 abbrev pub joins : Group → Credit → Bool

@@ -19,19 +19,18 @@ mod step;
 
 use step::{State, after};
 
-/// The longest time between the first departure of a group and each other one, in microseconds.
+/// The longest time between the first departure of a group and each other one, in microseconds
+/// (draft-ietf-rmcat-gcc-02, section 5.2, `burst_time`; `kSendTimeGroupLength` of libwebrtc).
 pub const GROUP_TIME: u64 = 5_000;
 
-/// Packets that arrive nearer to each other than this, in quarter-milliseconds, may be one burst.
+/// Packets that arrive nearer to each other than this, in quarter-milliseconds, may be one burst: 5
+/// ms (`kBurstDeltaThreshold` of libwebrtc).
 pub const BURST_GAP: i64 = 20;
 
-/// The microseconds of a quarter-millisecond.
-pub const ARRIVAL_MICROSECONDS: i64 = 250;
-
-/// A quarter-millisecond in 1/65536 millisecond.
+/// A quarter-millisecond in Q16 milliseconds.
 pub const ARRIVAL_Q16: i64 = 16_384;
 
-/// A millisecond in 1/65536 millisecond.
+/// A millisecond in Q16 milliseconds.
 pub const MILLISECOND_Q16: u64 = 65_536;
 
 /// The groups of the credits given so far.

@@ -4,8 +4,10 @@ ghost use Rattle.std.specs.Prelude.{◌≡◌, ◌≤◌, ◌≤ℤ◌, pos, neg
 ghost use Rattle.packet_groups.specs.Groups.{delay, difference, end_of, is_burst, joins};
 ghost use Rattle.packet_groups.specs.Kept.{IsGroupKept, IsKept, IsWithin, IsPointWithin, after};
 
-use crate::{ARRIVAL_MICROSECONDS, ARRIVAL_Q16, BURST_GAP, GROUP_TIME, MILLISECOND_Q16};
-use gcc_units::{Credit, GREATEST_ARRIVAL, GREATEST_DELAY, GREATEST_MOMENT, Moment, Sample};
+use crate::{ARRIVAL_Q16, BURST_GAP, GROUP_TIME, MILLISECOND_Q16};
+use gcc_units::{
+    ARRIVAL_MICROSECONDS, Credit, GREATEST_ARRIVAL, GREATEST_DELAY, GREATEST_MOMENT, Moment, Sample,
+};
 
 /// When a packet was sent, and when it arrived.
 #[derive(Clone, Copy)]
@@ -101,7 +103,7 @@ fn is_burst(arrival_gap: i64, send_gap: u64) -> bool
     requires send { send_gap ≤ GREATEST_MOMENT }
     ensures { result ≡ is_burst arrival_gap send_gap }
 {
-    arrival_gap < BURST_GAP && ARRIVAL_MICROSECONDS * arrival_gap < send_gap as i64
+    arrival_gap < BURST_GAP && ARRIVAL_MICROSECONDS as i64 * arrival_gap < send_gap as i64
 }
 
 /// The sample of two neighbouring groups, from their last packets.

@@ -8,11 +8,12 @@ use Rattle.std.proofs.lemmas.Grind.{flat_map-append}
 use Rattle.std.proofs.lemmas.Bool.Decides.{nat_tests}
 use Rattle.gcc_units.specs.declared.shared_types.Credit.{Credit}
 use Rattle.probe_clusters.specs.declared.cluster.Cluster.{Cluster}
-use Rattle.probe_clusters.specs.declared.TheConstants.{BYTE, LEAST_PACKETS, LEAST_TIME}
+use Rattle.probe_clusters.specs.declared.TheConstants.{LEAST_PACKETS, LEAST_TIME}
 use Rattle.probe_clusters.specs.Heard.{heard_of}
 use Rattle.probe_clusters.specs.Cluster.{is_ready}
 use Rattle.probe_clusters.specs.Deeds.{Deed, size_by, sizes, credits, credit_by, takes, cluster_of}
 use Rattle.probe_clusters.specs.Laws.{TakenOnce, WaitsOnce}
+use Rattle.gcc_units.specs.declared.limits.TheConstants.{BYTE}
 
 credits-first : (first : Bool) (before these later : List Credit) (more : Bool) → (first || more) ≡ true → (more ≡ true → later ≡ these)
     → (if first then [] else before ++ later) ≡ (if first then [] else before ++ these)

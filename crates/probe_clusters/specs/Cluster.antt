@@ -2,10 +2,10 @@
 use Rattle.std.specs.Prelude.{ℕ, ◌+◌, ◌-◌, ◌*◌, ◌≤◌, Bool, true, false, ◌&&◌, ◌||◌, not, nat_lt, nat_le, Option, Some, None, unwrap_or, if◌then◌else◌}
 use Rattle.std.specs.Option.{ForSome}
 use Rattle.gcc_units.specs.declared.shared_types.Credit.{Credit}
-use Rattle.gcc_units.specs.declared.limits.TheConstants.{MOST_PACKETS, GREATEST_PACKET}
+use Rattle.gcc_units.specs.declared.limits.TheConstants.{MOST_PACKETS, GREATEST_PACKET, BYTE}
 use Rattle.probe_clusters.specs.declared.heard.Heard.{Heard}
 use Rattle.probe_clusters.specs.declared.cluster.Cluster.{Cluster}
-use Rattle.probe_clusters.specs.declared.TheConstants.{BYTE, LEAST_PACKETS, LEAST_TIME, ENOUGH_PARTS, ALL_PARTS}
+use Rattle.probe_clusters.specs.declared.TheConstants.{LEAST_PACKETS, LEAST_TIME, ENOUGH_PARTS, ALL_PARTS}
 use Rattle.probe_clusters.specs.Heard.{heard_with}
 
 -- one that was planned, for which nothing was sent

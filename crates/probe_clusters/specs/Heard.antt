@@ -3,9 +3,9 @@ use Rattle.std.specs.Prelude.{ℕ, ℤ, ◌-ℤ◌, ◌+◌, ◌-◌, ◌*◌, �
 use Rattle.std.specs.Int.{int_max}
 use Rattle.std.specs.Ordering.{int_eq}
 use Rattle.gcc_units.specs.declared.shared_types.Credit.{Credit}
-use Rattle.gcc_units.specs.declared.limits.TheConstants.{LEAST_RATE, GREATEST_RATE}
+use Rattle.gcc_units.specs.declared.limits.TheConstants.{LEAST_RATE, GREATEST_RATE, ARRIVAL_MICROSECONDS, BYTE}
 use Rattle.probe_clusters.specs.declared.heard.Heard.{Heard}
-use Rattle.probe_clusters.specs.declared.TheConstants.{BYTE, ARRIVAL_MICROSECONDS, GREATEST_SPAN, MOST_TIMES, UNLOADED_PERCENT, TAKEN_PERCENT}
+use Rattle.probe_clusters.specs.declared.TheConstants.{GREATEST_SPAN, MOST_TIMES, UNLOADED_PERCENT, TAKEN_PERCENT}
 
 -- ---- the credits together
 

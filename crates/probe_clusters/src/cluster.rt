@@ -5,8 +5,8 @@ ghost use Rattle.probe_clusters.specs.Heard.{result_of};
 ghost use Rattle.probe_clusters.specs.Cluster.{is_due, is_enough, is_ready, planned, waits, with_credit, with_packet, with_result_taken, IsSmall};
 
 use crate::heard::Heard;
-use crate::{ALL_PARTS, BYTE, ENOUGH_PARTS, LEAST_PACKETS, LEAST_TIME};
-use gcc_units::{Credit, GREATEST_PACKET, Moment, Rate};
+use crate::{ALL_PARTS, ENOUGH_PARTS, LEAST_PACKETS, LEAST_TIME};
+use gcc_units::{BYTE, Credit, GREATEST_PACKET, Moment, Rate};
 
 /// What is kept of a cluster.
 #[derive(Clone, Copy)]

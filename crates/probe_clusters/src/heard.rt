@@ -4,10 +4,10 @@ ghost use Rattle.std.specs.Prelude.{◌≡◌, ◌<◌, ◌≤◌, ◌-◌, ◌^
 ghost use Rattle.probe_clusters.specs.Heard.{arrival_time, cut, earlier_of, estimated, heard_with, is_earlier, is_span, judged, later_of, rate_over, result_heard};
 ghost use Rattle.probe_clusters.specs.Cluster.{IsHeardSmall};
 
-use crate::{
-    ARRIVAL_MICROSECONDS, BYTE, GREATEST_SPAN, MOST_TIMES, TAKEN_PERCENT, UNLOADED_PERCENT,
+use crate::{GREATEST_SPAN, MOST_TIMES, TAKEN_PERCENT, UNLOADED_PERCENT};
+use gcc_units::{
+    ARRIVAL_MICROSECONDS, BYTE, Credit, GREATEST_PACKET, GREATEST_RATE, LEAST_RATE, Moment, Rate,
 };
-use gcc_units::{Credit, GREATEST_PACKET, GREATEST_RATE, LEAST_RATE, Moment, Rate};
 
 /// What is kept of the credits of a cluster's packets.
 #[derive(Clone, Copy)]

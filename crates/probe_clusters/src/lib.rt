@@ -16,38 +16,35 @@ pub use laws::{
 };
 pub use probes::{Clusters, Outcome, PlanFault};
 
-/// The fewest packets that are sent for a cluster.
+/// The fewest packets that are sent for a cluster (`min_probe_packets_sent` of libwebrtc).
 pub const LEAST_PACKETS: u32 = 5;
 
-/// A cluster waits until its bytes fill this time at its rate, in microseconds.
+/// A cluster waits until its bytes fill this time at its rate, in microseconds
+/// (`min_probe_duration` of libwebrtc).
 pub const LEAST_TIME: u64 = 15_000;
 
 /// A cluster has a result once so many of `ALL_PARTS` parts of its packets and of its bytes were
-/// credited.
+/// credited (`kMinReceivedProbesRatio`, `kMinReceivedBytesRatio` of libwebrtc).
 pub const ENOUGH_PARTS: u32 = 4;
 
 /// The parts that `ENOUGH_PARTS` are of.
 pub const ALL_PARTS: u32 = 5;
 
-/// The longest time from the first to the last departure or arrival of a cluster that gives a result,
-/// in microseconds.
+/// The longest time from the first to the last departure or arrival of a cluster that gives a
+/// result, in microseconds (`kMaxProbeInterval` of libwebrtc).
 pub const GREATEST_SPAN: u64 = 1_000_000;
 
-/// Packets that arrive more than so many times as fast as they were sent give no result.
+/// Packets that arrive more than so many times as fast as they were sent give no result
+/// (`kMaxValidRatio` of libwebrtc).
 pub const MOST_TIMES: u64 = 2;
 
-/// Where packets arrive below this part of the rate at which they were sent, in percent, the cluster
-/// overloaded the path.
+/// Where packets arrive below this part of the rate at which they were sent, in percent, the
+/// cluster overloaded the path (`kMinRatioForUnsaturatedLink` of libwebrtc).
 pub const UNLOADED_PERCENT: u64 = 90;
 
-/// The part of the rate of arriving that is taken then, in percent.
+/// The part of the rate of arriving that is taken then, in percent (`kTargetUtilizationFraction` of
+/// libwebrtc).
 pub const TAKEN_PERCENT: u64 = 95;
-
-/// A byte in micro-bits: a rate times microseconds is micro-bits too.
-pub const BYTE: u64 = 8_000_000;
-
-/// The microseconds of a quarter-millisecond.
-pub const ARRIVAL_MICROSECONDS: u64 = 250;
 
 #[cfg(test)]
 mod tests;

@@ -1,17 +1,18 @@
 -- The received rates at decreases: their average and variance in kbit/s.
-use Rattle.std.specs.Prelude.{ℕ, ◌+◌, ◌*◌, ◌/◌, ◌≤◌, nat_le, nat_lt, Bool, false, Option, Some, None, if◌then◌else◌}
+use Rattle.std.specs.Prelude.{ℕ, ◌+◌, ◌-◌, ◌*◌, ◌/◌, ◌≤◌, nat_le, nat_lt, Bool, false, Option, Some, None, if◌then◌else◌}
 use Rattle.std.specs.Int.{abs_diff}
 use Rattle.fixed_math.specs.Root.{root}
 use Rattle.rate_control.specs.declared.state.Capacity.{Capacity}
 use Rattle.rate_control.specs.declared.state.TheConstants.{GREATEST_KILOBITS}
+use Rattle.rate_control.specs.declared.capacity.TheConstants.{NEAR_DEVIATIONS, KEPT_PERCENT, ALL_PERCENT}
 
 -- a rate in whole kbit/s
 abbrev pub kilobits : ℕ → ℕ
 kilobits rate = rate / 1000
 
--- three standard deviations, each a root that is rounded down
+-- so many standard deviations, each a root that is rounded down
 abbrev pub spread : Capacity → ℕ
-spread c = 3 * root c.variance
+spread c = NEAR_DEVIATIONS * root c.variance
 
 -- no further from the average than that
 abbrev pub is_near : Capacity → ℕ → Bool
@@ -25,9 +26,9 @@ is_above c received = nat_lt (c.average + spread c) received
 abbrev pub is_not_below : Capacity → ℕ → Bool
 is_not_below c received = nat_le c.average (received + spread c)
 
--- the mean of what was kept, at 95 %, and what comes in, at 5 %, rounded down
+-- the mean of what was kept and what comes in, by their parts, rounded down
 abbrev pub smoothed : ℕ → ℕ → ℕ
-smoothed old new = (95 * old + 5 * new) / 100
+smoothed old new = (KEPT_PERCENT * old + (ALL_PERCENT - KEPT_PERCENT) * new) / ALL_PERCENT
 
 abbrev pub squared_distance : ℕ → ℕ → ℕ
 squared_distance one other = abs_diff one other * abs_diff one other

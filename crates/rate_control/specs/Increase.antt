@@ -1,11 +1,11 @@
 -- How an estimate is raised. Rates are bit/s, times microseconds.
 use Rattle.std.specs.Prelude.{ℕ, ◌+◌, ◌*◌, ◌/◌, min, max, Bool, Option, Some, None, if◌then◌else◌}
 use Rattle.std.specs.Int.{div_ceil}
-use Rattle.rate_control.specs.declared.increase.TheConstants.{FRAMES, PACKET_BITS, RESPONSE_TIME, LEAST_ADDED}
+use Rattle.rate_control.specs.declared.increase.TheConstants.{FRAMES, PACKET_BITS, RESPONSE_TIME, LEAST_ADDED, GROWTH_PERCENT, PERCENT_SECOND, LIMIT_HALVES}
 
--- by 8 % for each second
+-- by a part for each second
 abbrev pub multiplied : ℕ → ℕ → ℕ
-multiplied rate dt = rate + 8 * rate * dt / 100000000
+multiplied rate dt = rate + GROWTH_PERCENT * rate * dt / PERCENT_SECOND
 
 -- the bits of one of the frames of a second
 abbrev pub frame_bits : ℕ → ℕ
@@ -30,4 +30,4 @@ raised near rate rtt dt = if near then added rate rtt dt else multiplied rate dt
 -- An increase ends at one and a half of the received rate, and never lowers.
 abbrev pub limited : ℕ → ℕ → Option ℕ → ℕ
 limited rate next None = next
-limited rate next (Some received) = max rate (min next (3 * received / 2))
+limited rate next (Some received) = max rate (min next (LIMIT_HALVES * received / 2))

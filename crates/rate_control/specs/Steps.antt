@@ -9,6 +9,8 @@ use Rattle.rate_control.specs.declared.state.Mode.{Mode}
 use Rattle.rate_control.specs.declared.state.Mode.TheVariants.{Increase, Hold, Decrease}
 use Rattle.rate_control.specs.declared.state.State.{State}
 use Rattle.rate_control.specs.declared.state.TheConstants.{LONGEST_STEP}
+use Rattle.rate_control.specs.declared.step.TheConstants.{REDUCED_PERCENT}
+use Rattle.rate_control.specs.declared.capacity.TheConstants.{ALL_PERCENT}
 use Rattle.rate_control.specs.Capacity.{kilobits, after_decrease, after_increase, is_approached, IsInRange}
 use Rattle.rate_control.specs.Increase.{raised, limited}
 
@@ -30,11 +32,11 @@ abbrev pub elapsed : Option ℕ → ℕ → ℕ
 elapsed None now = 0
 elapsed (Some last) now = min (now - last) LONGEST_STEP
 
--- 85 % of a rate
+-- what a decrease leaves of a rate
 abbrev pub reduced : ℕ → ℕ
-reduced rate = 85 * rate / 100
+reduced rate = REDUCED_PERCENT * rate / ALL_PERCENT
 
--- to 85 % of the estimate, or where there is one, to no more than 85 % of the received rate
+-- to that part of the estimate, or where there is one, to no more than that part of the received rate
 abbrev pub decreased : State → Option ℕ → State
 decreased s None = record s { rate = reduced s.rate }
 decreased s (Some received) =

@@ -8,6 +8,17 @@ use crate::state::{Capacity, GREATEST_KILOBITS};
 use fixed_math::isqrt;
 use gcc_units::{GREATEST_RATE, Rate};
 
+/// A received rate is near the capacity within so many standard deviations
+/// (draft-ietf-rmcat-gcc-02, section 5.5).
+pub const NEAR_DEVIATIONS: u64 = 3;
+
+/// What the average and the variance of the capacity keep of themselves at a decrease, in percent
+/// (draft-ietf-rmcat-gcc-02, section 5.5: a smoothing factor of 0.95).
+pub const KEPT_PERCENT: u64 = 95;
+
+/// The whole, in percent.
+pub const ALL_PERCENT: u64 = 100;
+
 /// A rate in whole kbit/s.
 pub fn kilobits(rate: Rate) -> u64
     requires { rate ≤ GREATEST_RATE }
@@ -70,13 +81,13 @@ pub fn is_approached(capacity: Option<Capacity>, received: Option<u64>) -> bool
     is_not_below(known, received)
 }
 
-// Three standard deviations.
+// So many standard deviations.
 fn spread(capacity: Capacity) -> u64
     requires { IsInRange capacity }
     ensures value { result ≡ spread capacity }
-    ensures bound { result ≤ 3 * GREATEST_KILOBITS }
+    ensures bound { result ≤ NEAR_DEVIATIONS * GREATEST_KILOBITS }
 {
-    3 * isqrt(capacity.variance)
+    NEAR_DEVIATIONS * isqrt(capacity.variance)
 }
 
 fn is_near(capacity: Capacity, received: u64) -> bool
@@ -131,7 +142,7 @@ fn smoothed(old: u64, new: u64) -> u64
     ensures value { result ≡ smoothed old new }
     ensures between { result ≤ max old new }
 {
-    (95 * old + 5 * new) / 100
+    (KEPT_PERCENT * old + (ALL_PERCENT - KEPT_PERCENT) * new) / ALL_PERCENT
 }
 
 fn begun(received: u64) -> Capacity

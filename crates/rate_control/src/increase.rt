@@ -8,17 +8,28 @@ use crate::GREATEST_ROUND_TRIP;
 use crate::state::LONGEST_STEP;
 use gcc_units::{GREATEST_RATE, Rate};
 
-/// The frames of a second of video.
+/// The frames of a second of video (draft-ietf-rmcat-gcc-02, section 5.5: 30 frames a second).
 pub const FRAMES: u64 = 30;
 
-/// The most bits of a packet of a frame: 1,200 bytes.
+/// The most bits of a packet of a frame: 1,200 bytes (draft-ietf-rmcat-gcc-02, section 5.5).
 pub const PACKET_BITS: u64 = 9_600;
 
-/// How long a change takes to show, beside the round trip, in microseconds.
+/// How long a change takes to show, beside the round trip, in microseconds
+/// (draft-ietf-rmcat-gcc-02, section 5.5: 100 ms).
 pub const RESPONSE_TIME: u64 = 100_000;
 
-/// The least that is added, in bit/s.
+/// The least that an addition adds, in bit/s (draft-ietf-rmcat-gcc-02, section 5.5).
 pub const LEAST_ADDED: u64 = 1_000;
+
+/// By how much a multiplication raises in a second, in percent (draft-ietf-rmcat-gcc-02, section 5.5,
+/// `eta`).
+pub const GROWTH_PERCENT: u64 = 8;
+
+/// A hundred seconds in microseconds: a percent for each second is divided by it.
+pub const PERCENT_SECOND: u64 = 100_000_000;
+
+/// An increase ends at so many halves of the received rate (draft-ietf-rmcat-gcc-02, section 5.5).
+pub const LIMIT_HALVES: u64 = 3;
 
 /// The estimate, raised: near the known capacity by adding, else by multiplying.
 pub fn raised(near: bool, rate: Rate, rtt: u64, dt: u64) -> Rate
@@ -41,7 +52,7 @@ pub fn limited(rate: Rate, next: Rate, acked: Option<Rate>) -> Rate
 {
     match acked {
         None => next,
-        Some(received) => rate.max(next.min(3 * received / 2)),
+        Some(received) => rate.max(next.min(LIMIT_HALVES * received / 2)),
     }
 }
 
@@ -50,7 +61,7 @@ fn multiplied(rate: Rate, dt: u64) -> Rate
     requires dt { dt ≤ LONGEST_STEP }
     ensures { result ≡ multiplied rate dt }
 {
-    rate + 8 * rate * dt / 100_000_000
+    rate + GROWTH_PERCENT * rate * dt / PERCENT_SECOND
 }
 
 fn added(rate: Rate, rtt: u64, dt: u64) -> Rate

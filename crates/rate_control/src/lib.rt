@@ -23,7 +23,7 @@ mod step;
 use state::State;
 use step::{set_to, started, step, with_probe};
 
-/// The longest round-trip time that a step takes, in microseconds (this project's own limit).
+/// The longest round-trip time that a step takes, in microseconds (ours).
 pub const GREATEST_ROUND_TRIP: u64 = 10_000_000;
 
 /// The estimate of delay control, and what its rule keeps beside it.

@@ -2,10 +2,11 @@
 
 use gcc_units::{Moment, Rate};
 
-/// The greatest rate in kbit/s.
+/// The greatest rate in kbit/s (it follows from `GREATEST_RATE`).
 pub const GREATEST_KILOBITS: u64 = 10_000_000;
 
-/// The longest time between two steps that counts, in microseconds.
+/// The longest time between two steps that counts, in microseconds (draft-ietf-rmcat-gcc-02,
+/// section 5.5: at most one second).
 pub const LONGEST_STEP: u64 = 1_000_000;
 
 /// What a step does to the estimate.

@@ -7,10 +7,14 @@ ghost use Rattle.rate_control.specs.Capacity.{kilobits, IsInRange};
 ghost use Rattle.rate_control.specs.Steps.{started, next_mode, elapsed, reduced, decreased, increased, moved, put_in, step, set_to, with_probe, IsKept};
 
 use crate::GREATEST_ROUND_TRIP;
-use crate::capacity::{after_decrease, after_increase, is_approached, kilobits};
+use crate::capacity::{ALL_PERCENT, after_decrease, after_increase, is_approached, kilobits};
 use crate::increase::{limited, raised};
 use crate::state::{GREATEST_KILOBITS, LONGEST_STEP, Mode, State};
 use gcc_units::{Bounds, GREATEST_RATE, Moment, Rate, Signal};
+
+/// What a decrease leaves, in percent (draft-ietf-rmcat-gcc-02, section 5.5, `beta`; 0.85 in libwebrtc
+/// too).
+pub const REDUCED_PERCENT: u64 = 85;
 
 /// The state before the first step.
 pub fn started(rate: Rate) -> State
@@ -149,7 +153,7 @@ fn reduced(rate: Rate) -> Rate
     requires { rate ≤ GREATEST_RATE }
     ensures { result ≡ reduced rate }
 {
-    85 * rate / 100
+    REDUCED_PERCENT * rate / ALL_PERCENT
 }
 
 fn increased(state: State, acked: Option<Rate>, rtt: u64, dt: u64) -> State

@@ -3,10 +3,9 @@ use Rattle.std.proofs.Common.{◌≡◌, ℕ, suc, ℤ, ◌+◌, ◌*◌, ◌<�
 use Rattle.std.proofs.lemmas.List.{append-nil}
 use Rattle.std.proofs.lemmas.List.Elements.{All-weaker, All-nil, All-cons}
 use Rattle.std.proofs.lemmas.Option.{slice_get_within, slice_get-get_or}
-use Rattle.gcc_units.specs.declared.limits.TheConstants.{GREATEST_MOMENT, MOST_ENTRIES, MOST_SENDS}
+use Rattle.gcc_units.specs.declared.limits.TheConstants.{GREATEST_MOMENT, MOST_ENTRIES, MOST_SENDS, MOST_STATUSES}
 use Rattle.gcc_units.specs.declared.shared_types.Credit.{Credit}
 use Rattle.gcc_units.specs.declared.shared_types.Judged.{Judged}
-use Rattle.loss_control.specs.declared.TheConstants.{MOST_COUNT}
 use Rattle.twcc_report.specs.Spelling.{Feedback}
 use Rattle.twcc_report.specs.Reading.{read_of}
 use Rattle.sent_history.specs.declared.slot.Outgoing.{Outgoing}
@@ -87,7 +86,7 @@ planned-is planned cs (Some id) e h = subst (λ n. id < n) e h
 
 pub judged-taken : (h : List Entry) (p x : Parts) (moment count : ℕ) (verdict : Judged) (hist : history_kept.Kept) → StandsFor p h → length h < MOST_ENTRIES
     → x ≡ record p { pacer = advanced p.pacer moment; history = hist } → p.pacer.moment ≤ moment
-    → length verdict.received.items + verdict.missing + verdict.unknown + verdict.repeated ≡ count → count ≤ MOST_COUNT
+    → length verdict.received.items + verdict.missing + verdict.unknown + verdict.repeated ≡ count → count ≤ MOST_STATUSES
     → All (IsOfPacket (packets (events h))) verdict.received.items → All ArrivesInRange verdict.received.items
     → TakesJudged x verdict
 judged-taken h p x moment count verdict hist s short moves late sum few of arrives = rw moves (

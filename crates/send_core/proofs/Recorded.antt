@@ -3,8 +3,7 @@ use Rattle.std.proofs.Common.{◌≡◌, ℕ, suc, ◌+◌, ◌<◌, ◌≤◌, 
 use Rattle.std.proofs.lemmas.List.{append-nil, take_more}
 use Rattle.std.proofs.lemmas.List.Sums.{fold-append}
 use Rattle.std.proofs.lemmas.Grind.{flat_map-append}
-use Rattle.gcc_units.specs.declared.limits.TheConstants.{MOST_PACKETS}
-use Rattle.sent_history.specs.declared.TheConstants.{MOST_REPORTS}
+use Rattle.gcc_units.specs.declared.limits.TheConstants.{MOST_PACKETS, MOST_REPORTS}
 use Rattle.sent_history.specs.declared.slot.Outgoing.{Outgoing}
 use Rattle.sent_history.specs.Events.{Event, added, packet_in, report_in, packets, reports, last_sent_at}
 use Rattle.sent_history.specs.Kept.{Kept, StandsFor, TakesPacket, IsSentBy}

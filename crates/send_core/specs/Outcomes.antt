@@ -2,7 +2,6 @@
 use Rattle.std.specs.Prelude.{◌≡◌, ◌≤◌, ◌||◌, List, ◌++◌, length, map, All}
 use Rattle.gcc_units.specs.declared.shared_types.Judged.{Judged}
 use Rattle.gcc_units.specs.Listed.{bare}
-use Rattle.loss_control.specs.declared.TheConstants.{MOST_COUNT}
 use Rattle.allocator.specs.declared.stream.Stream.{Stream}
 use Rattle.allocator.specs.Shares.{shares}
 use Rattle.probe_clusters.specs.Deeds.{Deed, Plan, Note, takings}
@@ -20,13 +19,14 @@ use Rattle.send_core.specs.declared.parts.Parts.{Parts}
 use Rattle.send_core.specs.Settings.{settings_after, is_some, plans}
 use Rattle.send_core.specs.Estimates.{rates_of}
 use Rattle.send_core.specs.Stands.{pacing_for}
+use Rattle.gcc_units.specs.declared.limits.TheConstants.{MOST_STATUSES}
 
 -- ---- reports
 
 -- the estimator may be given what was judged
 pub record TakesJudged (p : Parts) (verdict : Judged) : Type 0 where
-  pub received : length verdict.received.items ≤ MOST_COUNT
-  pub missing : verdict.missing ≤ MOST_COUNT
+  pub received : length verdict.received.items ≤ MOST_STATUSES
+  pub missing : verdict.missing ≤ MOST_STATUSES
   pub ranges : All IsInRange verdict.received.items
   pub sent : All (IsSentBy p.pacer.moment) verdict.received.items
   pub report : TakesReport p.estimator (length verdict.received.items) p.pacer.moment

@@ -1,7 +1,6 @@
 -- A history of sent packets that takes so many more at a moment.
 use Rattle.std.specs.Prelude.{ℕ, ◌+◌, ◌≤◌, List, length}
-use Rattle.gcc_units.specs.declared.limits.TheConstants.{MOST_PACKETS}
-use Rattle.sent_history.specs.declared.TheConstants.{MOST_REPORTS}
+use Rattle.gcc_units.specs.declared.limits.TheConstants.{MOST_PACKETS, MOST_REPORTS}
 use Rattle.sent_history.specs.Events.{Event, packets, reports, last_sent_at}
 use Rattle.sent_history.specs.Kept.{Kept, StandsFor}
 

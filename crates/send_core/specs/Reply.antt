@@ -1,6 +1,6 @@
 -- The reply to a call, by the entries before it, and the histories in which each reply is that one.
 use Rattle.std.specs.Prelude.{◌≡◌, ℕ, ◌+◌, ◌*◌, ◌≤◌, nat_lt, count_by, if◌then◌else◌, Option, None, Some, List, length, take, slice_get, Result, Ok, Err}
-use Rattle.gcc_units.specs.declared.limits.TheConstants.{GREATEST_MOMENT, MOST_WAITING, MOST_SENDS, MOST_ENTRIES}
+use Rattle.gcc_units.specs.declared.limits.TheConstants.{GREATEST_MOMENT, MOST_WAITING, MOST_SENDS, MOST_ENTRIES, BOARD_LENGTHS}
 use Rattle.gcc_units.specs.declared.shared_types.Judged.{Judged}
 use Rattle.gcc_units.specs.Listed.{bare}
 use Rattle.rtp_wire.specs.declared.packet.WireFault.{WireFault}
@@ -37,7 +37,7 @@ extension_id history = (settings history).extension_id
 
 -- length and target in one number
 abbrev pub board : List Entry → ℕ
-board history = length history + 1048576 * target history
+board history = length history + BOARD_LENGTHS * target history
 
 -- ---- enqueue
 

@@ -14,6 +14,7 @@ use Rattle.send_core.specs.declared.call.Reply.TheVariants.{Configured}
 use Rattle.send_core.specs.declared.call.Entry.{Entry}
 use Rattle.send_core.specs.declared.settings.Settings.{Settings}
 use Rattle.send_core.specs.declared.settings.TheConstants.{START_MIN, START_MAX, START_PERCENT, LEAST_PERCENT, GREATEST_PERCENT, LEAST_WINDOW, START_EXTENSION, LEAST_EXTENSION, GREATEST_EXTENSION}
+use Rattle.send_core.specs.declared.planning.TheConstants.{FIRST_TIMES, SECOND_TIMES}
 
 -- ---- settings
 
@@ -72,10 +73,10 @@ starts_by call given = false
 abbrev pub started : List Entry → Bool
 started history = list_any (λ (e : Entry). starts_by e.call e.reply) history
 
--- the first start plans two clusters, of three and of six times its rate
+-- the first start plans two clusters, of so many times its rate
 abbrev pub start_plans : Option ℕ → List ℕ
 start_plans None = []
-start_plans (Some rate) = min GREATEST_RATE (3 * rate) ∷ min GREATEST_RATE (6 * rate) ∷ []
+start_plans (Some rate) = min GREATEST_RATE (FIRST_TIMES * rate) ∷ min GREATEST_RATE (SECOND_TIMES * rate) ∷ []
 
 abbrev pub probe_plans : Option ℕ → List ℕ
 probe_plans None = []

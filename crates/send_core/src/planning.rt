@@ -10,6 +10,13 @@ use crate::call::Change;
 use gcc_units::{GREATEST_RATE, Rate};
 use probe_clusters::Clusters;
 
+/// The first of the two clusters of a first start has so many times its rate
+/// (`first_exponential_probe_scale` of libwebrtc).
+pub const FIRST_TIMES: u64 = 3;
+
+/// The second of them has so many times its rate (`second_exponential_probe_scale` of libwebrtc).
+pub const SECOND_TIMES: u64 = 6;
+
 // Plans one cluster, for which there is room.
 fn plan_one(clusters: &mut Clusters, rate: Rate)
     requires { CanPlan clusters.old (rate ∷ []) }
@@ -21,7 +28,7 @@ fn plan_one(clusters: &mut Clusters, rate: Rate)
     }
 }
 
-// Plans two clusters for a first start: of three and of six times its rate.
+// Plans the two clusters of a first start.
 fn plan_start(clusters: &mut Clusters, start: Option<Rate>)
     requires plans { CanPlan clusters.old (start_plans start) }
     requires start { ForSome start (λ rate. rate ≤ GREATEST_RATE) }
@@ -29,8 +36,8 @@ fn plan_start(clusters: &mut Clusters, start: Option<Rate>)
     ensures stands { (ds : List Deed) → StandsFor clusters.old.items ds → StandsFor clusters.new.items (ds ++ map Plan (start_plans start)) }
 {
     if let Some(rate) = start {
-        plan_one(clusters, GREATEST_RATE.min(3 * rate));
-        plan_one(clusters, GREATEST_RATE.min(6 * rate));
+        plan_one(clusters, GREATEST_RATE.min(FIRST_TIMES * rate));
+        plan_one(clusters, GREATEST_RATE.min(SECOND_TIMES * rate));
     }
 }
 

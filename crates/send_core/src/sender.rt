@@ -7,7 +7,7 @@ use crate::copies::twin;
 use crate::journal::Journal;
 use crate::parts::Parts;
 use crate::stamping::{most_sends, stamp_all, wire_room};
-use gcc_units::{GREATEST_RATE, MOST_ENTRIES, NoMemory, Rate};
+use gcc_units::{BOARD_LENGTHS, GREATEST_RATE, MOST_ENTRIES, NoMemory, Rate};
 use std::alloc::Global;
 use std::marker::Model;
 
@@ -120,6 +120,6 @@ impl Sender {
         ensures board { result ≡ board self.now }
         ensures short { length self.now ≤ MOST_ENTRIES }
     {
-        u64::from(self.journal.len()) + (1 << 20) * self.target()
+        u64::from(self.journal.len()) + BOARD_LENGTHS * self.target()
     }
 }

@@ -8,28 +8,30 @@ use crate::call::Change;
 use gcc_units::{Bounds, GREATEST_RATE, Rate};
 use pacer::{START_PADDING, START_WINDOW};
 
-/// What both estimates begin with, in bit/s.
+/// What both estimates begin with, in bit/s (`kDefaultStartBitrateBps` of libwebrtc).
 pub const START_RATE: Rate = 300_000;
 
-/// The least estimate that a sender begins with, in bit/s.
+/// The least estimate that a sender begins with, in bit/s (ours).
 pub const START_MIN: Rate = 30_000;
 
-/// The greatest estimate that a sender begins with, in bit/s.
+/// The greatest estimate that a sender begins with, in bit/s (ours).
 pub const START_MAX: Rate = 10_000_000;
 
-/// The pacing rate in percent of the target rate that a sender begins with.
+/// The pacing rate in percent of the target that a sender begins with (`kDefaultPaceMultiplier` of
+/// libwebrtc).
 pub const START_PERCENT: u64 = 250;
 
-/// The least pacing rate in percent of the target rate.
+/// The least pacing rate in percent of the target (ours).
 pub const LEAST_PERCENT: u64 = 100;
 
-/// The greatest pacing rate in percent of the target rate.
+/// The greatest pacing rate in percent of the target (ours).
 pub const GREATEST_PERCENT: u64 = 1_000;
 
-/// The shortest window of both budgets, in microseconds.
+/// The shortest window of both budgets, in microseconds (ours).
 pub const LEAST_WINDOW: u64 = 1_000;
 
-/// The ID that a sender begins with for the extension element that holds the transport-wide number.
+/// The ID that a sender begins with for the extension element that holds the transport-wide number
+/// (ours).
 pub const START_EXTENSION: u64 = 3;
 
 /// The least ID of an extension element (RFC 8285, section 4.2).

@@ -1,10 +1,9 @@
 -- What the laws of crediting speak of.
 use Rattle.std.specs.Prelude.{◌≡◌, ℕ, ◌+◌, ◌<◌, ◌≤◌, Bool, true, not, nat_lt, ◌&&◌, List, length, count_by, slice_get, Some}
 use Rattle.std.specs.List.{range_with_len}
-use Rattle.gcc_units.specs.declared.limits.TheConstants.{KEPT_PACKETS}
+use Rattle.gcc_units.specs.declared.limits.TheConstants.{KEPT_PACKETS, MOST_STATUSES}
 use Rattle.twcc_report.specs.Spelling.{Feedback}
 use Rattle.twcc_report.specs.declared.report.Status.{Status}
-use Rattle.sent_history.specs.declared.TheConstants.{MOST_STATUSES}
 use Rattle.sent_history.specs.Events.{Event, packets}
 use Rattle.sent_history.specs.Crediting.{Account, account, has, is_received, is_outstanding, number_at}
 

@@ -1,7 +1,6 @@
 -- What a history keeps, and the packets and reports that it stands for.
 use Rattle.std.specs.Prelude.{◌≡◌, ℕ, ℤ, ◌+◌, ◌-◌, ◌<◌, ◌≤◌, false, List, length, min, slice_get, slice_index_or, Some}
-use Rattle.gcc_units.specs.declared.limits.TheConstants.{KEPT_PACKETS, MOST_PACKETS}
-use Rattle.sent_history.specs.declared.TheConstants.{MOST_REPORTS}
+use Rattle.gcc_units.specs.declared.limits.TheConstants.{KEPT_PACKETS, MOST_PACKETS, MOST_REPORTS}
 use Rattle.sent_history.specs.declared.slot.Slot.{Slot}
 use Rattle.sent_history.specs.Events.{Event, packets, reports, last_sent_at}
 use Rattle.sent_history.specs.Crediting.{Account, account, has}

@@ -7,10 +7,10 @@ ghost use Rattle.sent_history.specs.Events.{Event, added, reported, packets};
 ghost use Rattle.sent_history.specs.Crediting.{told, judged, outstanding, ArrivesInRange, IsOfPacket};
 ghost use Rattle.sent_history.specs.Kept.{StandsFor, TakesPacket, TakesReport, IsSentBy};
 
+use crate::GREATEST_REFERENCE;
 use crate::judging::{judge, mark_all};
 use crate::slot::{Outgoing, Slot};
-use crate::{GREATEST_REFERENCE, MOST_STATUSES};
-use gcc_units::{Judged, KEPT_PACKETS, NoMemory, unwrap24};
+use gcc_units::{Judged, KEPT_PACKETS, MOST_STATUSES, NoMemory, unwrap24};
 use std::alloc::Global;
 use std::marker::Model;
 use twcc_report::Report;

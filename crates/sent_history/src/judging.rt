@@ -8,9 +8,8 @@ ghost use Rattle.sent_history.specs.declared.slot.Verdict.{Verdict};
 ghost use Rattle.sent_history.specs.Crediting.{is_received, delta_of, verdict_on, told, ArrivesInRange};
 ghost use Rattle.sent_history.specs.Judging.{kept_slot, slot_verdict, running, marked, marked_if, is_number, all_marks};
 
-use crate::MOST_STATUSES;
 use crate::slot::{Slot, Verdict};
-use gcc_units::{Credit, Judged, NoMemory, Sequence, unwrap16};
+use gcc_units::{Credit, Judged, MOST_STATUSES, NoMemory, Sequence, unwrap16};
 use std::alloc::Global;
 use twcc_report::Status;
 

@@ -17,12 +17,6 @@ pub use laws::{
 };
 pub use slot::Outgoing;
 
-/// The most reports that a history judges: 2^20.
-pub const MOST_REPORTS: u32 = 1_048_576;
-
-/// The most statuses of a report.
-pub const MOST_STATUSES: u32 = 65_535;
-
 /// How far the reference of a report may lie from 0: 2^23.
 pub const GREATEST_REFERENCE: i32 = 8_388_608;
 

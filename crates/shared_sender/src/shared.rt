@@ -8,7 +8,7 @@ ghost use Rattle.send_core.specs.Reply.{IsLegal, target};
 ghost use Rattle.shared_sender.specs.Served.{answers_of, journal_of, HasWires, Refuses, Answers, Replies};
 
 use crate::held::Held;
-use gcc_units::{Bytes, Class, NoMemory, Rate};
+use gcc_units::{BOARD_LENGTHS, Bytes, Class, NoMemory, Rate};
 use send_core::{Answer, ApplyFault, Call, Change, Reply, Sender};
 use std::alloc::Global;
 use std::marker::Model;
@@ -218,8 +218,8 @@ impl Shared {
     {
         let board = self.turn.glance(seat);
         Glance {
-            calls: (board % (1 << 20)) as u32,
-            target: board / (1 << 20),
+            calls: (board % BOARD_LENGTHS) as u32,
+            target: board / BOARD_LENGTHS,
         }
     }
 

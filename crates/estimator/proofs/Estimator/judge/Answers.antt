@@ -1,6 +1,5 @@
 use Rattle.std.proofs.Common.{ℕ, ◌≡◌, ◌≤◌, List, [], ◌∷◌, ◌++◌, length, map, All, ap, sym, ◌∙◌, subst}
 use Rattle.gcc_units.specs.declared.shared_types.Credit.{Credit}
-use Rattle.loss_control.specs.declared.TheConstants.{MOST_COUNT}
 use Rattle.loss_control.specs.Rule.{after}
 use Rattle.loss_control.specs.Given as counted
 use Rattle.probe_clusters.specs.declared.probes.Outcome.{Outcome}
@@ -10,6 +9,7 @@ use Rattle.estimator.specs.Est.{judged_est, found}
 use Rattle.estimator.specs.Kept.{Values, StandsFor, IsInRange}
 use Rattle.estimator.proofs.Taking.{takes_credits, takes_adds, stands_judged}
 use Rattle.estimator.proofs.Estimator.judge.Goals as goal
+use Rattle.gcc_units.specs.declared.limits.TheConstants.{MOST_STATUSES}
 
 pub hear-heard-requires-clause-room : goal.hear-heard-requires-clause-room
 hear-heard-requires-clause-room c =
@@ -31,7 +31,7 @@ returns-clause-stands c e ds stands known =
     let found_is : results ≡ found ds xs = ap outcomes noted.are in
     let Stands : Values → Type 0 = λ v. StandsFor v e in
     let Ranges : List Credit → Type 0 = All IsInRange in
-    let Few : List Credit → Type 0 = λ ys. length ys ≤ MOST_COUNT in
+    let Few : List Credit → Type 0 = λ ys. length ys ≤ MOST_STATUSES in
     let now : Values = record {
       groups = c.hear-heard.new.groups;
       filter = c.hear-heard.new.filter;

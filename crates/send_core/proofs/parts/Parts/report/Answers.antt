@@ -1,8 +1,7 @@
 use Rattle.std.proofs.Common.{◌≡◌, ◌≤◌, length, max, Ok, subst, arith}
-use Rattle.gcc_units.specs.declared.limits.TheConstants.{GREATEST_MOMENT}
+use Rattle.gcc_units.specs.declared.limits.TheConstants.{GREATEST_MOMENT, MOST_STATUSES}
 use Rattle.send_core.specs.declared.call.Call.TheVariants as call_kind
 use Rattle.send_core.proofs.StepsMade.{steps_late, steps_refused}
-use Rattle.sent_history.specs.declared.TheConstants.{MOST_STATUSES}
 use Rattle.twcc_report.specs.Reading.{read_of}
 use Rattle.twcc_report.specs.Spelling.{view}
 use Rattle.send_core.specs.Reports.{events}

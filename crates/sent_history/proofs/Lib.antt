@@ -5,3 +5,4 @@ pub mod Places
 pub mod Slots
 pub mod Telling
 pub mod Runs
+pub mod Counts

@@ -1,6 +1,7 @@
 -- The loop over the statuses of a report.
-use Rattle.std.proofs.Common.{◌≡◌, ℕ, ℤ, neg_ℤ, suc, ◌+◌, ◌%◌, ◌<◌, ◌+ℤ◌, ◌≤ℤ◌, Bool, true, false, List, [], ◌∷◌, ◌++◌, length, drop, get_or, Option, Some, None, All, ap, sym, ◌∙◌, arith, append_assoc, append-nil, drop-cons}
+use Rattle.std.proofs.Common.{◌≡◌, ℕ, ℤ, neg_ℤ, suc, ◌+◌, ◌%◌, ◌<◌, ◌+ℤ◌, ◌≤ℤ◌, Bool, true, false, List, [], ◌∷◌, ◌++◌, length, cond, count_by, ◌≤◌, drop, get_or, Option, Some, None, All, ap, sym, ◌∙◌, arith, append_assoc, append-nil, drop-cons}
 use Rattle.std.proofs.lemmas.List.Elements.{All-append, All-nil, All-cons}
+use Rattle.std.proofs.lemmas.List.Sums.{sum_by-drop_more}
 use Rattle.std.proofs.lemmas.Grind.{flat_map-append}
 use Rattle.gcc_units.specs.Unwrapping.{named_number}
 use Rattle.gcc_units.specs.declared.limits.TheConstants.{GREATEST_ARRIVAL}
@@ -10,7 +11,7 @@ use Rattle.twcc_report.specs.declared.report.Status.TheVariants.{NotReceived, Sm
 use Rattle.sent_history.specs.declared.slot.Outgoing.{Outgoing}
 use Rattle.sent_history.specs.declared.slot.Slot.{Slot}
 use Rattle.sent_history.specs.declared.slot.Verdict.{Verdict}
-use Rattle.sent_history.specs.Crediting.{delta_of, verdict_on, credit_for, credit_in, credits_in, ArrivesInRange}
+use Rattle.sent_history.specs.Crediting.{is_received, delta_of, verdict_on, credit_for, credit_in, credits_in, ArrivesInRange}
 use Rattle.sent_history.specs.Judging.{kept_slot, slot_verdict_if, slot_verdict, running}
 
 pub goes_on : (judge : Status → Option ℕ → ℤ → Verdict) (sent low : ℕ) (arrived then : ℤ) (statuses : List Status) (i : ℕ)
@@ -59,3 +60,31 @@ still_in_range slots sent status o arrived before v e low high so_far =
     let more : credits_in (before ++ v ∷ []) ≡ credits_in before ++ credit_in v =
     flat_map-append credit_in before (v ∷ []) ∙ ap (λ (xs : List Credit). credits_in before ++ xs) (append-nil (credit_in v)) in
     rw more (All-append ArrivesInRange (credits_in before) (credit_in v) so_far one)
+
+-- ---- room for the credits
+
+abbrev pub bit : Bool → ℕ
+bit b = cond b 1 0
+
+few_on : (c s : Bool) (n : ℕ) (p : Outgoing) (status : Status) (arrived : ℤ) → length (credit_in (verdict_on c s n p status arrived)) ≤ bit (is_received status)
+unfolding verdict_on
+few_on true s n p status arrived = omega arith
+few_on false true n p NotReceived arrived = omega arith
+few_on false false n p NotReceived arrived = omega arith
+few_on false s n p (Small d) arrived = omega arith
+few_on false s n p (Large d) arrived = omega arith
+
+few_if : (n : ℕ) (status : Status) (arrived : ℤ) (o : Option Slot) → length (credit_in (slot_verdict_if n status arrived o)) ≤ bit (is_received status)
+few_if n status arrived None = omega arith
+few_if n status arrived (Some s) = few_on s.credited s.missed n s.packet status arrived
+
+-- only a status that says received credits
+pub few_credits : (slots : List Slot) (sent : ℕ) (status : Status) (o : Option ℕ) (arrived : ℤ) → length (credit_in (slot_verdict slots sent status o arrived)) ≤ bit (is_received status)
+unfolding slot_verdict
+few_credits slots sent status None arrived = omega arith
+few_credits slots sent status (Some n) arrived = few_if n status arrived (kept_slot slots sent n)
+
+-- the room of the statuses to come, with the next of them apart
+pub room_splits : (statuses : List Status) (i : ℕ) → i < length statuses
+    → count_by is_received (drop i statuses) ≡ bit (is_received (get_or statuses i NotReceived)) + count_by is_received (drop (i + 1) statuses)
+room_splits statuses i lt = sum_by-drop_more (λ (s : Status). bit (is_received s)) statuses i NotReceived lt

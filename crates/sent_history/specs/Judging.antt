@@ -1,6 +1,8 @@
 -- How the code judges: by the slots that are kept, one status after the other.
-use Rattle.std.specs.Prelude.{ℕ, ℤ, ◌+ℤ◌, ◌+◌, ◌-◌, ◌%◌, Bool, true, false, ◌==◌, nat_lt, if◌then◌else◌, List, [], ◌∷◌, length, slice_get, Option, Some, None}
+use Rattle.std.specs.Prelude.{ℕ, ℤ, ◌+ℤ◌, ◌+◌, ◌-◌, ◌%◌, Bool, true, false, not, cond, ◌==◌, nat_lt, if◌then◌else◌, List, [], ◌∷◌, length, slice_get, Option, Some, None}
 use Rattle.gcc_units.specs.Unwrapping.{named_number}
+use Rattle.gcc_units.specs.Listed.{bare}
+use Rattle.gcc_units.specs.declared.shared_types.Judged.{Judged}
 use Rattle.twcc_report.specs.declared.report.Status.{Status}
 use Rattle.sent_history.specs.declared.slot.Slot.{Slot}
 use Rattle.sent_history.specs.declared.slot.Verdict.{Verdict}
@@ -24,6 +26,20 @@ abbrev pub running : (Status → Option ℕ → ℤ → Verdict) → ℕ → ℕ
 running judge sent low arrived [] = []
 running judge sent low arrived (status ∷ statuses) =
     judge status (named_number sent low) (arrived +ℤ delta_of status) ∷ running judge sent ((low + 1) % 65536) (arrived +ℤ delta_of status) statuses
+
+-- the answer, with no promise of room
+abbrev pub settled : Judged → Judged
+settled j = record j { received = bare j.received.items }
+
+-- ---- which slots are not credited
+
+abbrev pub is_uncredited : Slot → Bool
+is_uncredited s = not s.credited
+
+-- 1 where there is a slot that is not credited
+abbrev pub uncredited_in : Option Slot → ℕ
+uncredited_in None = 0
+uncredited_in (Some s) = cond (is_uncredited s) 1 0
 
 -- ---- marks
 

@@ -1,16 +1,16 @@
 //! The history of sent packets and of what reports said of them.
 
-ghost use Rattle.std.specs.Prelude.{◌≡◌, ℕ, pos, neg_ℤ, ◌+◌, ◌-◌, ◌^◌, ◌<◌, ◌≤◌, ◌≤ℤ◌, ◌∷◌, ◌++◌, [], not, List, length, drop, count_by, All, IfOk, OnOk, OnErr, vec_capacity};
+ghost use Rattle.std.specs.Prelude.{◌≡◌, ℕ, pos, neg_ℤ, ◌+◌, ◌-◌, ◌^◌, ◌<◌, ◌≤◌, ◌≤ℤ◌, ◌∷◌, ◌++◌, [], List, length, All, IfOk, OnOk, OnErr};
 ghost use Rattle.twcc_report.specs.Spelling.{view};
-ghost use Rattle.sent_history.specs.declared.slot.Slot.{Slot};
 ghost use Rattle.sent_history.specs.Events.{Event, added, reported, packets};
 ghost use Rattle.sent_history.specs.Crediting.{told, judged, outstanding, ArrivesInRange, IsOfPacket};
 ghost use Rattle.sent_history.specs.Kept.{StandsFor, TakesPacket, TakesReport, IsSentBy};
 
 use crate::GREATEST_REFERENCE;
 use crate::judging::{judge, mark_all};
+use crate::ring::Ring;
 use crate::slot::{Outgoing, Slot};
-use gcc_units::{Judged, KEPT_PACKETS, MOST_STATUSES, NoMemory, unwrap24};
+use gcc_units::{Judged, MOST_STATUSES, NoMemory, unwrap24};
 use std::alloc::Global;
 use std::marker::Model;
 use twcc_report::Report;
@@ -18,24 +18,20 @@ use twcc_report::Report;
 /// The packets that were sent, numbered from 0 on, and what reports said of the last of them.
 #[derive(Drop)]
 pub struct History {
-    slots: Vec<Slot>,
+    slots: Ring,
     sent: u64,
     reference: i64,
 }
 
 impl Model for History {
     ghost use Rattle.std.specs.Prelude.{◌≤◌, length};
-    ghost use Rattle.std.specs.Vec.{vec_capacity};
-    ghost use Rattle.gcc_units.specs.declared.limits.TheConstants.{KEPT_PACKETS};
     ghost use Rattle.sent_history.specs.Kept.{Kept};
 
     ghost Value = { Kept };
 
-    ghost view = { λ h. record { sent = h.sent; slots = h.slots.items; reference = h.reference } };
+    ghost view = { λ h. record { sent = h.sent; slots = h.slots; reference = h.reference } };
 
-    ghost invariant = { λ h. (KEPT_PACKETS ≤ vec_capacity h.slots)
-        × (length h.slots.items ≤ KEPT_PACKETS)
-        × (length h.slots.items ≤ h.sent) };
+    ghost invariant = { λ h. length h.slots ≤ h.sent };
 }
 
 impl History {
@@ -44,7 +40,7 @@ impl History {
         ensures { IfOk result (λ h. StandsFor h []) }
     {
         Ok(History {
-            slots: Vec::with_capacity(alloc, KEPT_PACKETS as usize)?,
+            slots: Ring::new(alloc)?,
             sent: 0,
             reference: 0,
         })
@@ -60,14 +56,11 @@ impl History {
             → result ≡ length (packets events) }
     {
         let number = self.sent;
-        slide(
-            &mut self.slots,
-            Slot {
-                packet,
-                credited: false,
-                missed: false,
-            },
-        );
+        self.slots.push(Slot {
+            packet,
+            credited: false,
+            missed: false,
+        });
         self.sent += 1;
         number
     }
@@ -83,7 +76,7 @@ impl History {
     pub fn outstanding(&self) -> u32
         ensures { (events : List Event) → StandsFor self.now events → result ≡ outstanding events }
     {
-        open_count(&self.slots) as u32
+        self.slots.uncredited()
     }
 
     /// Judges the statuses of a report by what came before it, and credits the outstanding packets that it
@@ -121,26 +114,4 @@ impl History {
         self.reference = reference;
         Ok(judged)
     }
-}
-
-/// How many slots are not credited.
-fn open_count(slots: &[Slot]) -> usize
-    ensures count { result ≡ count_by (λ (s : Slot). not s.credited) slots.now }
-    ensures few { result ≤ length slots.now }
-{
-    slots.iter().filter(|slot| !slot.credited).count()
-}
-
-/// Puts a slot at the end, where the oldest goes if there are as many as are kept.
-fn slide(slots: &mut Vec<Slot>, slot: Slot)
-    requires room { KEPT_PACKETS ≤ vec_capacity slots.old }
-    requires few { length slots.old.items ≤ KEPT_PACKETS }
-    ensures items { slots.new.items
-        ≡ drop (length slots.old.items + 1 - KEPT_PACKETS) slots.old.items ++ slot ∷ [] }
-    ensures room { vec_capacity slots.new ≡ vec_capacity slots.old }
-{
-    if slots.len() == KEPT_PACKETS as usize {
-        slots.remove(0);
-    }
-    slots.push_reserved(slot);
 }

@@ -1,13 +1,14 @@
 //! Judging the statuses of a report, and marking the packets that they name.
 
-ghost use Rattle.std.specs.Prelude.{◌≡◌, ℕ, pos, neg_ℤ, ◌+◌, ◌-◌, ◌*◌, ◌%◌, ◌^◌, ◌<◌, ◌≤◌, ◌≤ℤ◌, ◌∷◌, ◌++◌, [], List, length, All, IfOk, OnOk, slice_index_or};
+ghost use Rattle.std.specs.Prelude.{◌≡◌, ℕ, pos, neg_ℤ, ◌+◌, ◌-◌, ◌*◌, ◌%◌, ◌^◌, ◌<◌, ◌≤◌, ◌≤ℤ◌, ◌∷◌, ◌++◌, [], List, length, count_by, All, IfOk, slice_index_or};
 ghost use Rattle.std.specs.Option.{option_copied};
 ghost use Rattle.gcc_units.specs.Unwrapping.{named_number};
 ghost use Rattle.sent_history.specs.declared.slot.Slot.{Slot};
 ghost use Rattle.sent_history.specs.declared.slot.Verdict.{Verdict};
-ghost use Rattle.sent_history.specs.Crediting.{is_received, delta_of, verdict_on, told, ArrivesInRange};
-ghost use Rattle.sent_history.specs.Judging.{kept_slot, slot_verdict, running, marked, marked_if, is_number, all_marks};
+ghost use Rattle.sent_history.specs.Crediting.{is_received, delta_of, verdict_on, credit_in, told, ArrivesInRange};
+ghost use Rattle.sent_history.specs.Judging.{kept_slot, slot_verdict, running, settled, marked, marked_if, is_number, all_marks};
 
+use crate::ring::Ring;
 use crate::slot::{Slot, Verdict};
 use gcc_units::{Credit, Judged, MOST_STATUSES, NoMemory, Sequence, unwrap16};
 use std::alloc::Global;
@@ -39,7 +40,7 @@ fn delta_of(status: Status) -> i64
 
 /// The slot of a packet, where it is kept.
 #[tactic(auto, unfolding(crate::specs::Judging::kept_slot))]
-fn kept_slot(slots: &[Slot], sent: u64, number: u64) -> Option<&Slot>
+fn kept_slot(slots: &Ring, sent: u64, number: u64) -> Option<&Slot>
     requires { length slots.now ≤ sent }
     ensures { option_copied result ≡ kept_slot slots.now sent number }
 {
@@ -77,7 +78,7 @@ fn verdict_on(slot: &Slot, number: u64, status: Status, arrival: i64) -> Verdict
 
 /// The verdict on a status that names by these low 16 bits.
 #[tactic(auto, unfolding(crate::specs::Judging::slot_verdict))]
-fn verdict_at(slots: &[Slot], sent: u64, low: u16, status: Status, arrival: i64) -> Verdict
+fn verdict_at(slots: &Ring, sent: u64, low: u16, status: Status, arrival: i64) -> Verdict
     requires { length slots.now ≤ sent }
     ensures { result ≡ slot_verdict slots.now sent status (named_number sent low) arrival }
 {
@@ -90,28 +91,38 @@ fn verdict_at(slots: &[Slot], sent: u64, low: u16, status: Status, arrival: i64)
     }
 }
 
-/// Adds a verdict to those that are told.
-fn tell(judged: &mut Judged, verdict: Verdict) -> Result<(), NoMemory>
-    requires { (before : List Verdict) × (judged.old ≡ told before) × (length before < MOST_STATUSES) }
-    ensures { (before : List Verdict) → judged.old ≡ told before
-        → OnOk result (judged.new ≡ told (before ++ verdict ∷ [])) }
+/// How many statuses say that their packet was received.
+fn received_count(statuses: &[Status]) -> u32
+    requires { length statuses.now ≤ MOST_STATUSES }
+    ensures { result ≡ count_by is_received statuses.now }
+{
+    statuses
+        .iter()
+        .filter(|status| is_received(**status))
+        .count() as u32
+}
+
+/// Adds a verdict to those that are told. There is room for a credit.
+fn tell(judged: &mut Judged, verdict: Verdict)
+    requires few { (before : List Verdict) × (settled judged.old ≡ told before) × (length before < MOST_STATUSES) }
+    requires room { length (credit_in verdict) ≤ judged.old.received.spare }
+    ensures told { (before : List Verdict) → settled judged.old ≡ told before
+        → settled judged.new ≡ told (before ++ verdict ∷ []) }
+    ensures room { judged.new.received.spare + length (credit_in verdict) ≡ judged.old.received.spare }
 {
     match verdict {
-        Verdict::Received(credit) => match judged.received.push(credit) {
-            Ok(()) => {}
-            Err((error, _)) => return Err(error),
-        },
+        Verdict::Received(credit) => judged.received.put(credit),
         Verdict::Missing(_) => judged.missing += 1,
         Verdict::Unknown => judged.unknown += 1,
         Verdict::Repeated => judged.repeated += 1,
     }
-    Ok(())
 }
 
 /// Judges the statuses in order, by what was said of the packets before. The first delta counts from `start`.
+/// Memory is taken once, for the statuses that say received.
 pub fn judge(
     alloc: Global,
-    slots: &[Slot],
+    slots: &Ring,
     sent: u64,
     base: u16,
     start: i64,
@@ -131,13 +142,18 @@ pub fn judge(
         unknown: 0,
         repeated: 0,
     };
+    judged.received.reserve(received_count(statuses))?;
     let mut low = base;
     let mut arrival = start;
     for status in statuses {
         arrival += delta_of(*status);
-        tell(&mut judged, verdict_at(slots, sent, low, *status, arrival))?;
+        tell(
+            &mut judged,
+            verdict_at(slots, sent, low, *status, arrival),
+        );
         low = low.wrapping_add(1);
     }
+    judged.received.trim();
     Ok(judged)
 }
 
@@ -153,9 +169,10 @@ fn mark(slot: &mut Slot, status: Status)
 }
 
 /// Marks the packet that a status names, where it is kept.
-fn mark_number(slots: &mut [Slot], sent: u64, low: u16, status: Status)
+fn mark_number(slots: &mut Ring, sent: u64, low: u16, status: Status)
     requires { length slots.old ≤ sent }
-    ensures { (k : ℕ) (d : Slot) → k < length slots.old
+    ensures length { length slots.new ≡ length slots.old }
+    ensures marks { (k : ℕ) (d : Slot) → k < length slots.old
         → slice_index_or slots.new k d
         ≡ marked_if (is_number (named_number sent low) (sent - length slots.old + k)) status (slice_index_or slots.old k d) }
 {
@@ -164,14 +181,20 @@ fn mark_number(slots: &mut [Slot], sent: u64, low: u16, status: Status)
     };
     let first = sent - slots.len() as u64;
     if number >= first {
-        mark(&mut slots[(number - first) as usize], status);
+        let place = (number - first) as usize;
+        if let Some(kept) = slots.get(place) {
+            let mut slot = *kept;
+            mark(&mut slot, status);
+            slots.replace(place, slot);
+        }
     }
 }
 
 /// Marks the packets that the statuses name.
-pub fn mark_all(slots: &mut [Slot], sent: u64, base: u16, statuses: &[Status])
+pub fn mark_all(slots: &mut Ring, sent: u64, base: u16, statuses: &[Status])
     requires { length slots.old ≤ sent }
-    ensures { (k : ℕ) (d : Slot) → k < length slots.old
+    ensures length { length slots.new ≡ length slots.old }
+    ensures marks { (k : ℕ) (d : Slot) → k < length slots.old
         → slice_index_or slots.new k d
         ≡ all_marks sent base statuses.now (sent - length slots.old + k) (slice_index_or slots.old k d) }
 {

@@ -9,6 +9,7 @@
 mod history;
 mod judging;
 mod laws;
+mod ring;
 mod slot;
 
 pub use history::History;

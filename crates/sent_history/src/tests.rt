@@ -152,6 +152,7 @@ fn run_agrees(rt: &impl Abort, alloc: Global, run: &Run) -> Result<(), Fail> {
         assert_eq!(rt; history.add(packet(number)), number);
     }
     assert_eq!(rt; history.sent(), packets);
+    assert_eq!(rt; u64::from(history.outstanding()), packets.min(32_768));
     for row in rows {
         let Row(bytes, credits, missing, unknown, repeated, outstanding) = *row;
         let report = read_report(alloc, bytes)?;
@@ -201,4 +202,15 @@ const WRAP_RUN: Run = Run(
 #[test]
 fn number_wrap(rt: HostRuntime) -> Result<(), Fail> {
     run_agrees(&rt, rt.alloc(), &WRAP_RUN)
+}
+
+#[test]
+fn many_adds(rt: HostRuntime) -> Result<(), Fail> {
+    let mut history = History::new(rt.alloc())?;
+    for _number in 0..8_000_000 {
+        history.add(packet(0));
+    }
+    assert_eq!(rt; history.sent(), 8_000_000);
+    assert_eq!(rt; history.outstanding(), 32_768);
+    Ok(())
 }

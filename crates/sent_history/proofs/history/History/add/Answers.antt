@@ -14,10 +14,10 @@ overflow_add-self c =
 
 pub returns-clause-stands : goal.returns-clause-stands
 returns-clause-stands c = λ events stands.
-    let h : Kept = record { sent = c.self.inside.sent; slots = c.self.inside.slots.items; reference = c.self.inside.reference } in
+    let h : Kept = record { sent = c.self.inside.sent; slots = c.self.inside.slots; reference = c.self.inside.reference } in
     let keep : Keeps h (account events) = subst (λ (k : Kept). Keeps k (account events)) (sym c.self.view_is) stands in
     rw (account-push events (added c.args.packet))
-    (keeps_added h (account events) c.args.packet c.slide.new.slots.items (account_is_sound events) keep c.slide.ensures.items)
+    (keeps_added h (account events) c.args.packet c.push.new.self (account_is_sound events) keep c.push.ensures)
 
 pub returns-clause-number : goal.returns-clause-number
 returns-clause-number c = λ events stands. ap (λ (h : Kept). h.sent) c.self.view_is ∙ stands.sent ∙ ap length (account_packets events)

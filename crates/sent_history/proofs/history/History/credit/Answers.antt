@@ -1,4 +1,4 @@
-use Rattle.std.proofs.Common.{◌≡◌, ℕ, pos, ◌+◌, ◌-◌, ◌<◌, ◌*ℤ◌, List, length, slice_index_or, ap, sym, ◌∙◌, subst, arith, to_z, of_z, w32, w64}
+use Rattle.std.proofs.Common.{◌≡◌, ℕ, pos, ◌+◌, ◌-◌, ◌<◌, ◌*ℤ◌, List, length, refl, ap, sym, ◌∙◌, subst, arith, to_z, of_z, w32, w64}
 use Rattle.std.specs.List.{enumerate_from}
 use Rattle.std.specs.Vec.{with_items}
 use Rattle.std.proofs.lemmas.Int.{ints}
@@ -50,7 +50,7 @@ judge-requires-clause-high c =
 
 pub returns-clause-stands : goal.returns-clause-stands
 returns-clause-stands c = λ events stands.
-    let h : Kept = record { sent = c.self.inside.sent; slots = c.self.inside.slots.items; reference = c.self.inside.reference } in
+    let h : Kept = record { sent = c.self.inside.sent; slots = c.self.inside.slots; reference = c.self.inside.reference } in
     let keep : Keeps h (account events) = subst (λ (k : Kept). Keeps k (account events)) (sym c.self.view_is) stands in
     let last : IsNear 8796093022208 c.self.inside.reference =
     last_near c.args.self.now c.self.inside.reference (ap (λ (k : Kept). k.reference) c.self.view_is) c.requires.room in
@@ -62,18 +62,13 @@ returns-clause-stands c = λ events stands.
     let is_next : to_z w64 (of_z w64 c.unwrap24-reference.result) ≡ c.unwrap24-reference.result = omega (arith, ints, near.low, near.high) in
     let next : to_z w64 (of_z w64 c.unwrap24-reference.result) ≡ unwrapped h.reference report.reference =
     is_next ∙ c.unwrap24-reference.ensures.value ∙ ap (λ z. unwrapped z (to_z w32 (of_z w32 report.reference))) is_last ∙ ap (λ z. unwrapped h.reference z) is_low in
-    let len : length c.mark_all.new.slots ≡ length h.slots = c.mark_all.auto.slots ∙ ap length c.deref_mut.ensures.value in
-    let written : c.mark_all.new.slots ≡ (with_items c.self.inside.slots c.mark_all.new.slots).items =
-    sym (with_items_is c.self.inside.slots c.mark_all.new.slots (len ∙ sym c.self.inside.slots.ok.0)) in
     rw (account-push events (reported report))
-    (keeps_reported h (account events) report _ (to_z w64 (of_z w64 c.unwrap24-reference.result)) (omega arith) keep (ap length (sym written) ∙ len)
-    (subst (λ (new : List Slot). (k : ℕ) (d : Slot) → k < length h.slots → slice_index_or new k d ≡ all_marks h.sent report.base report.statuses (h.sent - length h.slots + k) (slice_index_or h.slots k d)) written
-    (marks_of c.mark_all.new.slots c.deref_mut.result.now h.slots h.sent report.base c.as_slice-statuses.result.now report.statuses c.deref_mut.ensures.value
-    c.as_slice-statuses.ensures.items c.mark_all.ensures)) next)
+    (keeps_reported h (account events) report c.mark_all.new.slots (to_z w64 (of_z w64 c.unwrap24-reference.result)) (omega arith) keep c.mark_all.ensures.length
+    (marks_of c.mark_all.new.slots h.slots h.slots h.sent report.base c.as_slice-statuses.result.now report.statuses refl c.as_slice-statuses.ensures.items c.mark_all.ensures.marks) next)
 
 pub returns-clause-judged : goal.returns-clause-judged
 returns-clause-judged c = λ events stands.
-    let h : Kept = record { sent = c.self.inside.sent; slots = c.self.inside.slots.items; reference = c.self.inside.reference } in
+    let h : Kept = record { sent = c.self.inside.sent; slots = c.self.inside.slots; reference = c.self.inside.reference } in
     let keep : Keeps h (account events) = subst (λ (k : Kept). Keeps k (account events)) (sym c.self.view_is) stands in
     let last : IsNear 8796093022208 c.self.inside.reference =
     last_near c.args.self.now c.self.inside.reference (ap (λ (k : Kept). k.reference) c.self.view_is) c.requires.room in
@@ -87,8 +82,8 @@ returns-clause-judged c = λ events stands.
     let product : to_z w64 (of_z w64 (pos 256 *ℤ to_z w64 (of_z w64 c.unwrap24-reference.result))) ≡ (pos 256 *ℤ c.unwrap24-reference.result) =
     omega (arith, ints, near.low, near.high) in
     c.in_ok-judged.ensures.verdicts
-    ∙ ap told (judged_are h (account events) report c.deref.result.now (to_z w64 (of_z w64 (pos 256 *ℤ to_z w64 (of_z w64 c.unwrap24-reference.result)))) c.as_slice-statuses.result.now
-    (omega arith) keep c.deref.ensures.value (product ∙ ap (λ z. pos 256 *ℤ z) value) c.as_slice-statuses.ensures.items)
+    ∙ ap told (judged_are h (account events) report h.slots (to_z w64 (of_z w64 (pos 256 *ℤ to_z w64 (of_z w64 c.unwrap24-reference.result)))) c.as_slice-statuses.result.now
+    (omega arith) keep refl (product ∙ ap (λ z. pos 256 *ℤ z) value) c.as_slice-statuses.ensures.items)
 
 pub returns-clause-sum : goal.returns-clause-sum
 returns-clause-sum c =

@@ -5,7 +5,7 @@ use Rattle.sent_history.proofs.history.History.new.Goals as goal
 pub returns : goal.returns
 unfolding account
 returns c =
-    let none = c.in_ok-with_capacity.ensures.items in
+    let none = c.in_ok-new.ensures in
     record {
       sent = refl;
       window = ap length none;

@@ -9,9 +9,8 @@ use Rattle.sent_history.proofs.history.History.outstanding.Goals as goal
 
 pub returns : goal.returns
 returns c = λ events stands.
-    let h : Kept = record { sent = c.self.inside.sent; slots = c.self.inside.slots.items; reference = c.self.inside.reference } in
+    let h : Kept = record { sent = c.self.inside.sent; slots = c.self.inside.slots; reference = c.self.inside.reference } in
     let keep : Keeps h (account events) = subst (λ (k : Kept). Keeps k (account events)) (sym c.self.view_is) stands in
-    c.open_count.ensures.count
-    ∙ ap (λ (slots : List Slot). count_by (λ (s : Slot). not s.credited) slots) c.deref.ensures.value
+    c.uncredited.ensures
     ∙ outstanding_are h (account events) keep
     ∙ ap (λ xs. count_by (is_outstanding (account events)) (range_with_len 0 (length xs))) (account_packets events)

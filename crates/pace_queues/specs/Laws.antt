@@ -5,7 +5,7 @@ use Rattle.std.proofs.lemmas.Bool.Decides.{nat_tests}
 use Rattle.std.proofs.lemmas.List.Elements.{All-nil, All-cons, All-head, All-tail, All-contains, All-filter, Contains-append_right}
 use Rattle.std.proofs.lemmas.List.Kept.{AllPairs-filter}
 use Rattle.pace_queues.specs.declared.ticket.Ticket.{Ticket}
-use Rattle.pace_queues.specs.Waiting.{goes_before, better, next, without, GoesNoLater, IsLeast, LosesJust, CameBefore, IsKept}
+use Rattle.pace_queues.specs.Waiting.{goes_before, better, next, without, GoesNoLater, IsLeast, LosesJust, CameBefore}
 
 before-no_later : (a b : Ticket) → goes_before a b ≡ true → GoesNoLater a b
 before-no_later a b h = grind (arith, nat_tests)
@@ -104,10 +104,10 @@ itself-fails t = grind (arith, nat_tests)
 others-pass : (t : Ticket) (ts : List Ticket) → All (CameBefore t) ts → All (λ (u : Ticket). not (u.index == t.index) ≡ true) ts
 others-pass t ts all = λ k d l. later-passes t (get_or ts k d) (all k d l)
 
-AllPairs-head : (t : Ticket) (ts : List Ticket) → AllPairs CameBefore (t ∷ ts) → All (CameBefore t) ts
+pub AllPairs-head : (t : Ticket) (ts : List Ticket) → AllPairs CameBefore (t ∷ ts) → All (CameBefore t) ts
 AllPairs-head t ts pairs = λ k d l. pairs 0 (suc k) d (omega arith) (omega arith)
 
-AllPairs-tail : (t : Ticket) (ts : List Ticket) → AllPairs CameBefore (t ∷ ts) → AllPairs CameBefore ts
+pub AllPairs-tail : (t : Ticket) (ts : List Ticket) → AllPairs CameBefore (t ∷ ts) → AllPairs CameBefore ts
 AllPairs-tail t ts pairs = λ i j d l m. pairs (suc i) (suc j) d (omega arith) (omega arith)
 
 without-first : (t : Ticket) (ts : List Ticket) → All (CameBefore t) ts → LosesJust t (t ∷ ts) (without t.index (t ∷ ts))
@@ -135,22 +135,6 @@ without-one t (u ∷ us) rising (suc k, l, is) =
     without-later t u us
     (subst (λ (v : Ticket). CameBefore u v) is (rising 0 (suc k) t (omega arith) l))
     (without-one t us (AllPairs-tail u us rising) (k, omega arith, is))
-
-filter-shorter : (test : Ticket → Bool) (ts : List Ticket) → length (filter test ts) ≤ length ts
-filter-shorter test [] = omega arith
-filter-shorter test (t ∷ ts) = cons-shorter t (test t) (filter test ts) ts (filter-shorter test ts)
-  where
-    cons-shorter : (t : Ticket) (b : Bool) (us ts : List Ticket) → length us ≤ length ts → length (cond b (t ∷ us) us) ≤ length (t ∷ ts)
-    cons-shorter t true us ts h = omega arith
-    cons-shorter t false us ts h = omega arith
-
--- what is kept is still so after one has gone
-pub IsKept-without : (capacity index : ℕ) (waiting : List Ticket) → IsKept capacity waiting → IsKept capacity (without index waiting)
-IsKept-without capacity index waiting kept = record {
-  room = kept.room;
-  few = omega (arith, kept.few, filter-shorter (λ (t : Ticket). not (t.index == index)) waiting);
-  rising = AllPairs-filter CameBefore (λ (t : Ticket). not (t.index == index)) waiting kept.rising;
-}
 
 -- the next one is none exactly where nothing waits
 pub next-is_none : (waiting : List Ticket) → IsNone (next waiting) ↔ (waiting ≡ [])

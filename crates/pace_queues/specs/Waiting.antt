@@ -1,9 +1,8 @@
 -- The packets that wait, in the order of arrival, and which of them goes next: the one with the least
 -- pair of rank and index, so audio before retransmissions before video and FEC, and within a rank the
 -- one that came first.
-use Rattle.std.specs.Prelude.{◌≡◌, ◌⊎◌, ℕ, ◌<◌, ◌≤◌, ◌==◌, ◌||◌, ◌&&◌, nat_lt, not, Bool, if◌then◌else◌, Option, None, Some, List, ◌∷◌, ◌++◌, length, All, AllPairs, Contains, filter, fold}
+use Rattle.std.specs.Prelude.{◌≡◌, ◌⊎◌, ℕ, ◌<◌, ◌≤◌, ◌==◌, ◌||◌, ◌&&◌, nat_lt, not, Bool, if◌then◌else◌, Option, None, Some, List, ◌∷◌, ◌++◌, All, Contains, filter, fold}
 use Rattle.gcc_units.specs.Priority.{rank_of}
-use Rattle.gcc_units.specs.declared.limits.TheConstants.{MOST_WAITING}
 use Rattle.pace_queues.specs.declared.ticket.Ticket.{Ticket}
 
 -- a lesser rank, or the same rank and a lesser index
@@ -58,10 +57,3 @@ size_of t = t.size
 
 abbrev pub accepted_at_of : Ticket → ℕ
 accepted_at_of t = t.accepted_at
-
--- what is true of every list that is kept: there is room for the most that may wait, no more wait,
--- and the indices rise
-pub record IsKept (capacity : ℕ) (waiting : List Ticket) : Type 0 where
-  pub room : MOST_WAITING ≤ capacity
-  pub few : length waiting ≤ MOST_WAITING
-  pub rising : AllPairs CameBefore waiting

@@ -1,29 +1,37 @@
-ghost use Rattle.std.specs.Prelude.{◌≡◌, ◌<◌, ◌≤◌, ◌↔◌, List, [], ◌∷◌, ◌++◌, length, All, sum_by, IsOk, IsNone, OnOk, OnErr, IfOk, IfErr, IfSome, vec_capacity};
-ghost use Rattle.pace_queues.specs.Waiting.{next, better, goes_before, without, rest, IsLeast, LosesJust, HasIndexBelow, size_of, accepted_at_of};
+ghost use Rattle.std.specs.Prelude.{◌≡◌, ◌<◌, ◌≤◌, ◌↔◌, List, [], ◌∷◌, ◌++◌, length, All, sum_by, IsOk, IsNone, OnOk, OnErr, IfOk, IfErr, IfSome};
+ghost use Rattle.pace_queues.specs.Waiting.{next, rest, IsLeast, LosesJust, HasIndexBelow, size_of, accepted_at_of};
+ghost use Rattle.circular_buffer.specs.Buffer.{buffer};
 
 use crate::ticket::{Full, Ticket};
-use gcc_units::{MOST_WAITING, NoMemory};
+use circular_buffer::HeapCircularBuffer;
+use gcc_units::{Class, MOST_WAITING, NoMemory};
 use std::alloc::Global;
 use std::marker::Model;
 
 /// The tickets of the waiting packets.
 #[derive(Drop)]
 pub struct Queues {
-    // In the order of arrival, with room for the most that may wait from the start on.
-    waiting: Vec<Ticket>,
+    // A ring for each rank, in the order of arrival, each with room for the most that may wait from
+    // the start on.
+    audio: HeapCircularBuffer<Ticket>,
+    retransmissions: HeapCircularBuffer<Ticket>,
+    // With forward error correction.
+    video: HeapCircularBuffer<Ticket>,
+    // Of all that waits, so that no call has to go over it.
+    bytes: u64,
+    accepted_sum: u128,
 }
 
 impl Model for Queues {
     ghost use Rattle.std.specs.Prelude.{List};
-    ghost use Rattle.std.specs.Vec.{vec_capacity};
     ghost use Rattle.pace_queues.specs.declared.ticket.Ticket.{Ticket};
-    ghost use Rattle.pace_queues.specs.Waiting.{IsKept};
+    ghost use Rattle.pace_queues.specs.Rings.{in_order, AreRings};
 
     ghost Value = { List Ticket };
 
-    ghost view = { λ q. q.waiting.items };
+    ghost view = { λ q. in_order q.audio.items q.retransmissions.items q.video.items };
 
-    ghost invariant = { λ q. IsKept (vec_capacity q.waiting) q.waiting.items };
+    ghost invariant = { λ q. AreRings q.audio q.retransmissions q.video q.bytes q.accepted_sum };
 }
 
 impl Queues {
@@ -32,10 +40,13 @@ impl Queues {
     pub fn new(alloc: Global) -> Result<Queues, NoMemory>
         ensures empty { IfOk result (λ q. q ≡ []) }
     {
-        let Ok(waiting) = Vec::with_capacity(alloc, MOST_WAITING as usize) else {
-            return Err(NoMemory);
-        };
-        Ok(Queues { waiting })
+        Ok(Queues {
+            audio: ring(alloc)?,
+            retransmissions: ring(alloc)?,
+            video: ring(alloc)?,
+            bytes: 0,
+            accepted_sum: 0,
+        })
     }
 
     /// Adds a ticket behind those that wait. `Full` comes exactly where `MOST_WAITING` tickets
@@ -48,12 +59,18 @@ impl Queues {
         ensures cause { IfErr result (λ f. (f.waiting ≡ MOST_WAITING) × (length self.old ≡ MOST_WAITING)) }
         ensures room { length self.old < MOST_WAITING → IsOk result }
     {
-        if self.waiting.len() >= MOST_WAITING as usize {
+        if self.len() >= MOST_WAITING {
             return Err(Full {
                 waiting: MOST_WAITING,
             });
         }
-        self.waiting.push_reserved(ticket);
+        self.bytes += u64::from(ticket.size);
+        self.accepted_sum += u128::from(ticket.accepted_at);
+        match ticket.class {
+            Class::Audio => self.audio.push_back(ticket),
+            Class::Retransmission => self.retransmissions.push_back(ticket),
+            Class::Video | Class::Fec => self.video.push_back(ticket),
+        };
         Ok(())
     }
 
@@ -64,7 +81,9 @@ impl Queues {
         ensures least { IfSome result (λ t. IsLeast t self.now) }
         ensures none { IsNone result ↔ (self.now ≡ []) }
     {
-        first_of(&self.waiting)
+        let audio = self.audio.front().copied();
+        let retransmission = self.retransmissions.front().copied();
+        audio.or(retransmission).or(self.video.front().copied())
     }
 
     /// Takes out the ticket with the least pair of rank and index. `None` exactly where nothing
@@ -76,8 +95,14 @@ impl Queues {
         ensures just_it { IfSome result (λ t. LosesJust t self.old self.new) }
         ensures none { IsNone result ↔ (self.old ≡ []) }
     {
-        let first = first_of(&self.waiting)?;
-        drop_index(&mut self.waiting, first.index);
+        let first = self.head()?;
+        self.bytes -= u64::from(first.size);
+        self.accepted_sum -= u128::from(first.accepted_at);
+        match first.class {
+            Class::Audio => self.audio.pop_front(),
+            Class::Retransmission => self.retransmissions.pop_front(),
+            Class::Video | Class::Fec => self.video.pop_front(),
+        };
         Some(first)
     }
 
@@ -86,58 +111,27 @@ impl Queues {
         ensures len { result ≡ length self.now }
         ensures most { result ≤ MOST_WAITING }
     {
-        self.waiting.len() as u32
+        (self.audio.len() + self.retransmissions.len() + self.video.len()) as u32
     }
 
     /// The sum of the sizes of what waits, in bytes.
     pub fn bytes(&self) -> u64
         ensures { result ≡ sum_by size_of self.now }
     {
-        self.waiting.iter().map(|t| u64::from(t.size)).sum()
+        self.bytes
     }
 
     /// The sum of the moments at which what waits was accepted, in microseconds.
     pub fn accepted_sum(&self) -> u128
         ensures { result ≡ sum_by accepted_at_of self.now }
     {
-        self.waiting.iter().map(|t| u128::from(t.accepted_at)).sum()
+        self.accepted_sum
     }
 }
 
-// The ticket that goes first.
-fn first_of(waiting: &[Ticket]) -> Option<Ticket>
-    ensures first { result ≡ next waiting.now }
-    ensures least { IfSome result (λ t. IsLeast t waiting.now) }
-    ensures none { IsNone result ↔ (waiting.now ≡ []) }
+// An empty ring with room for the most that may wait.
+fn ring(alloc: Global) -> Result<HeapCircularBuffer<Ticket>, NoMemory>
+    ensures { IfOk result (λ r. r ≡ buffer [] MOST_WAITING) }
 {
-    waiting
-        .iter()
-        .fold(None, |best, ticket| better_of(best, *ticket))
-}
-
-// The one of the two that goes first.
-fn better_of(best: Option<Ticket>, ticket: Ticket) -> Option<Ticket>
-    ensures { result ≡ better best ticket }
-{
-    match best {
-        None => Some(ticket),
-        Some(best) if goes_before(&ticket, &best) => Some(ticket),
-        Some(best) => Some(best),
-    }
-}
-
-// A lesser rank goes first, and within a rank what came first.
-fn goes_before(a: &Ticket, b: &Ticket) -> bool
-    ensures { result ≡ goes_before a.now b.now }
-{
-    let (rank, other) = (a.class.rank(), b.class.rank());
-    rank < other || (rank == other && a.index < b.index)
-}
-
-// Takes out the ticket with this index.
-fn drop_index(waiting: &mut Vec<Ticket>, index: u32)
-    ensures items { waiting.new.items ≡ without index waiting.old.items }
-    ensures capacity { vec_capacity waiting.new ≡ vec_capacity waiting.old }
-{
-    waiting.retain(|t| t.index != index);
+    HeapCircularBuffer::with_capacity(alloc, MOST_WAITING as usize).map_err(|_| NoMemory)
 }

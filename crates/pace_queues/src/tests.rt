@@ -41,6 +41,19 @@ fn audio_goes_first_and_a_rank_goes_by_arrival(rt: HostRuntime) -> Result<(), Fa
 }
 
 #[test]
+fn each_rank_has_its_turn(rt: HostRuntime) -> Result<(), Fail> {
+    let mut queues = Queues::new(rt.alloc())?;
+    assert_eq!(rt; add(&mut queues, 0, Class::Video), Ok(()));
+    assert_eq!(rt; add(&mut queues, 1, Class::Fec), Ok(()));
+    assert_eq!(rt; add(&mut queues, 2, Class::Retransmission), Ok(()));
+    assert_eq!(rt; add(&mut queues, 3, Class::Audio), Ok(()));
+    for index in [3, 2, 0, 1] {
+        assert_eq!(rt; queues.pop().map(|ticket| ticket.index), Some(index));
+    }
+    Ok(())
+}
+
+#[test]
 fn the_limit_refuses_until_one_has_gone(rt: HostRuntime) -> Result<(), Fail> {
     let mut queues = Queues::new(rt.alloc())?;
     for index in 0..MOST_WAITING {

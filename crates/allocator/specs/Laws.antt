@@ -4,7 +4,9 @@ use Rattle.std.specs.List.{position, position_or_len, insert}
 use Rattle.std.proofs.lemmas.Bool.Decides.{nat_tests}
 use Rattle.std.proofs.lemmas.List.Elements.{All-nil, All-cons, All-head, All-tail, All-filter, All-weaker, filter_passes, All-map}
 use Rattle.std.proofs.lemmas.List.Sums.{AllPass-from_list_all, prefix_len-le-length}
-use Rattle.std.proofs.lemmas.List.{length-map}
+use Rattle.std.proofs.lemmas.List.{length-map, append-nil}
+use Rattle.std.specs.List.Sorted.{IsPermutation}
+use Rattle.std.proofs.lemmas.List.Sorted.{IsPermutation-refl, IsPermutation-insert, IsPermutation-trans, IsPermutation-middle, IsPermutation-append_left}
 use Rattle.std.proofs.lemmas.List.Kept.{AllPairs-filter, AllPairs-cons}
 use Rattle.gcc_units.specs.declared.limits.TheConstants.{MOST_STREAMS}
 use Rattle.allocator.specs.declared.stream.Stream.{Stream}
@@ -360,6 +362,23 @@ pub in_order_sorts : (streams : List Stream) → AllPairs HasLesserId streams �
 unfolding in_order
 in_order_sorts streams rising =
     order-placed_all [] streams (All-nil (λ y. All (HasLesserId y) streams)) rising (λ i j d l m. absurd (omega arith))
+
+-- and it has the same streams
+IsPermutation-placed : (before : Stream → Stream → Bool) (xs : List Stream) (x : Stream) → IsPermutation (x ∷ xs) (placed before xs x)
+IsPermutation-placed before xs x =
+    subst (IsPermutation (x ∷ xs)) (placed_is before xs x) (IsPermutation-insert xs (position_or_len (before x) xs) x)
+
+IsPermutation-placed_all : (before : Stream → Stream → Bool) (xs ys : List Stream) → IsPermutation (xs ++ ys) (fold (placed before) xs ys)
+IsPermutation-placed_all before xs [] = subst (IsPermutation (xs ++ [])) (append-nil xs) (IsPermutation-refl (xs ++ []))
+IsPermutation-placed_all before xs (y ∷ ys) =
+    IsPermutation-trans (xs ++ y ∷ ys) (y ∷ (xs ++ ys)) (fold (placed before) (placed before xs y) ys) (IsPermutation-middle xs y ys)
+    (IsPermutation-trans (y ∷ (xs ++ ys)) (placed before xs y ++ ys) (fold (placed before) (placed before xs y) ys)
+    (IsPermutation-append_left ys (y ∷ xs) (placed before xs y) (IsPermutation-placed before xs y))
+    (IsPermutation-placed_all before (placed before xs y) ys))
+
+pub IsPermutation-in_order : (streams : List Stream) → IsPermutation streams (in_order streams)
+unfolding in_order
+IsPermutation-in_order streams = IsPermutation-placed_all goes_before [] streams
 
 -- shares are one for each stream, in rising order of id
 ids-shares_in : (given : List Share) (streams : List Stream) → map share_id (map (share_in given) streams) ≡ map id_of streams

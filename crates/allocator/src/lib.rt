@@ -5,6 +5,7 @@
 #![tactic(auto)]
 
 mod checks;
+pub mod laws;
 mod set;
 mod shares;
 mod stream;

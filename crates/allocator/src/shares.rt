@@ -28,7 +28,6 @@ struct Standing {
 /// each at most its weight and at most up to its maximum. Where not even the minima fit, each served
 /// stream gets its minimum. (This project's own rule.)
 pub fn allocate(total: Rate, streams: &StreamSet, out: &mut ShareList)
-    requires total { total ≤ GREATEST_RATE }
     requires empty { out.old.items ≡ [] }
     requires room { MOST_STREAMS ≤ out.old.spare }
     ensures shares { out.new.items ≡ shares total streams.now }
@@ -50,7 +49,6 @@ pub fn allocate(total: Rate, streams: &StreamSet, out: &mut ShareList)
 
 // The streams that are served, in order.
 fn served_of(total: Rate, ordered: &[Stream]) -> ArrayVec<Stream, MOST_SERVED>
-    requires total { total ≤ GREATEST_RATE }
     requires sound { All IsSound ordered.now }
     requires few { length ordered.now ≤ MOST_STREAMS }
     ensures served { result.items ≡ served total ordered.now }

@@ -1,7 +1,5 @@
 //! Worked shares, and that memory is enough.
 
-ghost use Rattle.std.specs.Prelude.{◌≤◌};
-
 use crate::{Stream, StreamList, StreamSet, allocate, are_sound, ids_differ};
 use gcc_units::{GREATEST_RATE, IdList, MOST_STREAMS, NoMemory, Rate, Share, ShareList};
 use std::alloc::Global;
@@ -106,9 +104,7 @@ fn changed(
 }
 
 // The shares of a total.
-fn shares_of(alloc: Global, total: Rate, streams: &StreamSet) -> Result<ShareList, NoMemory>
-    requires { total ≤ GREATEST_RATE }
-{
+fn shares_of(alloc: Global, total: Rate, streams: &StreamSet) -> Result<ShareList, NoMemory> {
     let mut out = ShareList::new(alloc);
     out.reserve(MOST_STREAMS)?;
     allocate(total, streams, &mut out);
@@ -120,7 +116,7 @@ fn worked_shares(rt: HostRuntime) -> Result<(), Fail> {
     let alloc = rt.alloc();
     for case in CASES {
         let streams = changed(alloc, &StreamSet::new(alloc), case.0, &[])?.ok_or("a sound change")?;
-        let shares = shares_of(alloc, case.1.min(GREATEST_RATE), &streams)?;
+        let shares = shares_of(alloc, case.1, &streams)?;
         let given: Vec<(u32, Rate)> = shares
             .as_slice()
             .iter()

@@ -6,3 +6,4 @@ pub mod Together
 pub mod Later
 pub mod Passed
 pub mod Reports
+pub mod Readiness

@@ -1,8 +1,9 @@
 -- Lists of probe clusters; a cluster's id is its place.
-use Rattle.std.specs.Prelude.{◌≡◌, ◌<◌, ◌≤◌, length, fold, slice_index_or, ℕ, zero, suc, ◌+◌, false, if◌then◌else◌, List, [], ◌∷◌, ◌++◌, map, position, slice_get, option_map, Option, Some, None}
+use Rattle.std.specs.Prelude.{◌≡◌, ◌<◌, ◌≤◌, length, fold, slice_index_or, ℕ, zero, suc, ◌+◌, Bool, false, ◌==◌, min, if◌then◌else◌, List, [], ◌∷◌, ◌++◌, map, count_by, position, slice_get, option_map, Option, Some, None}
 use Rattle.gcc_units.specs.declared.shared_types.Credit.{Credit}
 use Rattle.probe_clusters.specs.declared.cluster.Cluster.{Cluster}
 use Rattle.probe_clusters.specs.declared.probes.Outcome.{Outcome}
+use Rattle.probe_clusters.specs.declared.probes.Readiness.{Readiness}
 use Rattle.probe_clusters.specs.Heard.{result_of}
 use Rattle.probe_clusters.specs.Cluster.{waits, is_due, is_ready, with_packet, with_credit, with_result_taken}
 
@@ -32,10 +33,23 @@ abbrev pub due_at : ℕ → List Cluster → Option ℕ → Option ℕ
 due_at now cs None = None
 due_at now cs (Some id) = due_as now id (slice_get cs id)
 
--- none of the first so many waits
-pub record AreOver (count : ℕ) (cs : List Cluster) : Type 0 where
+-- none of the first so many passes the test
+pub record NoneOfFirst (test : Cluster → Bool) (count : ℕ) (cs : List Cluster) : Type 0 where
   pub below : count ≤ length cs
-  pub over : (k : ℕ) (d : Cluster) → k < count → waits (slice_index_or cs k d) ≡ false
+  pub none : (k : ℕ) (d : Cluster) → k < count → test (slice_index_or cs k d) ≡ false
+
+-- none of the first so many waits
+abbrev pub AreOver : ℕ → List Cluster → Type 0
+AreOver count cs = NoneOfFirst waits count cs
+
+-- So many are ready, and none of the first so many is.
+pub record AreReady (r : Readiness) (cs : List Cluster) : Type 0 where
+  pub count : r.count ≡ count_by is_ready cs
+  pub none : NoneOfFirst is_ready r.first cs
+
+-- how many at the front are not ready, once a cluster was written that is or is not; all, where none is
+abbrev pub first_after : ℕ → ℕ → ℕ → Bool → ℕ → ℕ
+first_after count first id is all = if count == 0 then all else (if is then min first id else first)
 
 -- the current cluster, where it is due
 abbrev pub due : List Cluster → ℕ → Option ℕ

@@ -1,9 +1,9 @@
-ghost use Rattle.std.specs.Prelude.{◌≡◌, ℕ, ◌↔◌, ◌<◌, ◌≤◌, ◌+◌, ◌^◌, if◌then◌else◌, List, [], ◌∷◌, ◌++◌, length, count_by, position, IsNone, IsSome, IfSome, IfNone, IfErr, IfOk, OnOk, OnErr, IsErr};
+ghost use Rattle.std.specs.Prelude.{◌≡◌, ℕ, ◌↔◌, ◌<◌, ◌≤◌, ◌+◌, ◌^◌, if◌then◌else◌, List, [], ◌∷◌, ◌++◌, length, count_by, position, slice_set, false, vec_len, vec_capacity, IsNone, IsSome, IfSome, IfNone, IfErr, IfOk, OnOk, OnErr, IsErr};
 ghost use Rattle.gcc_units.specs.Listed.{bare};
 ghost use Rattle.gcc_units.specs.Rates.{IsRate};
 ghost use Rattle.probe_clusters.specs.declared.cluster.Cluster.{Cluster};
 ghost use Rattle.probe_clusters.specs.Cluster.{planned, waits, is_ready};
-ghost use Rattle.probe_clusters.specs.Clusters.{AreOver, due, sent, noted, ready, after_ready, outcomes, after_outcomes, listed};
+ghost use Rattle.probe_clusters.specs.Clusters.{AreOver, AreReady, NoneOfFirst, first_after, due, sent, noted, ready, after_ready, outcomes, after_outcomes, listed};
 ghost use Rattle.probe_clusters.specs.Deeds.{Deed, clusters, Plan, Note, StandsFor, ReachedBy, send, takings};
 
 use crate::cluster::Cluster;
@@ -28,6 +28,15 @@ pub struct Outcome {
     pub result: Option<Rate>,
 }
 
+// What is known of the clusters that have a result which was not taken.
+#[derive(Clone, Copy)]
+struct Readiness {
+    // How many there are.
+    count: u32,
+    // How many at the front are none of them, which are passed over in the search for the first.
+    first: u32,
+}
+
 /// The probe clusters of a sender. Contracts see them in the order of their ids, with a spare number:
 /// so many more can be planned before memory is asked for.
 #[derive(Drop)]
@@ -36,6 +45,7 @@ pub struct Clusters {
     room: u32,
     // How many at the front no longer wait, which are passed over in the search for the current one.
     over: u32,
+    ready: Readiness,
 }
 
 impl Model for Clusters {
@@ -43,13 +53,13 @@ impl Model for Clusters {
     ghost use Rattle.std.specs.Vec.{vec_len, vec_capacity};
     ghost use Rattle.gcc_units.specs.Listed.{Listed};
     ghost use Rattle.probe_clusters.specs.declared.cluster.Cluster.{Cluster};
-    ghost use Rattle.probe_clusters.specs.Clusters.{AreOver};
+    ghost use Rattle.probe_clusters.specs.Clusters.{AreOver, AreReady};
 
     ghost Value = { Listed Cluster };
 
     ghost view = { λ s. record { items = s.held.items; spare = s.room } };
 
-    ghost invariant = { λ s. (vec_len s.held + s.room ≤ vec_capacity s.held) × (vec_len s.held + s.room < 2 ^ 32) × AreOver s.over s.held.items };
+    ghost invariant = { λ s. (vec_len s.held + s.room ≤ vec_capacity s.held) × (vec_len s.held + s.room < 2 ^ 32) × AreOver s.over s.held.items × AreReady s.ready s.held.items };
 }
 
 impl Clusters {
@@ -63,6 +73,7 @@ impl Clusters {
             held: Vec::new(alloc),
             room: 0,
             over: 0,
+            ready: Readiness { count: 0, first: 0 },
         }
     }
 
@@ -151,7 +162,7 @@ impl Clusters {
             unreachable!()
         };
         let cluster = self.held[id].with_packet(size, now);
-        self.held[id] = cluster;
+        write(&mut self.held, &mut self.ready, id, cluster);
         self.over = over_from(id, &cluster);
     }
 
@@ -171,7 +182,8 @@ impl Clusters {
             return;
         };
         let id = id as usize;
-        self.held[id] = self.held[id].with_credit(credit);
+        let cluster = self.held[id].with_credit(credit);
+        write(&mut self.held, &mut self.ready, id, cluster);
     }
 
     /// Takes the result of the least cluster that has one and gave none yet: it no longer waits, and
@@ -194,11 +206,17 @@ impl Clusters {
         ensures none { IsNone result ↔ (outcomes self.old.items ≡ []) }
         ensures all_taken { IfNone result (after_outcomes self.old.items ≡ self.old.items) }
     {
-        let Some(id) = first_ready(self.held.as_slice()) else {
+        let Some(id) = first_ready(self.held.as_slice(), self.ready.first as usize) else {
             return None;
         };
         let cluster = self.held[id];
-        self.held[id] = cluster.with_result_taken();
+        self.ready.first = id as u32;
+        write(
+            &mut self.held,
+            &mut self.ready,
+            id,
+            cluster.with_result_taken(),
+        );
         Some(Outcome {
             id: id as u32,
             result: cluster.result(),
@@ -207,6 +225,7 @@ impl Clusters {
 
     // Puts a cluster at the end. With spare room it is never refused; at `NoMemory` nothing changes.
     fn add(&mut self, cluster: Cluster) -> Result<(), NoMemory>
+        requires { is_ready cluster ≡ false }
         ensures items { OnOk result (self.new.items ≡ self.old.items ++ cluster ∷ []) }
         ensures spare { OnOk result (self.old.spare ≤ self.new.spare + 1) }
         ensures err { OnErr result (self.new ≡ self.old) }
@@ -271,9 +290,52 @@ fn over_from(id: usize, cluster: &Cluster) -> u32
     }
 }
 
-// The cluster with the least id that has a result and gave none.
-fn first_ready(clusters: &[Cluster]) -> Option<usize>
+// The cluster with the least id that has a result and gave none; so many at the front are none.
+fn first_ready(clusters: &[Cluster], first: usize) -> Option<usize>
+    requires { NoneOfFirst is_ready first clusters.now }
     ensures { result ≡ position is_ready clusters.now }
 {
+    match first_ready_in(&clusters[first..]) {
+        Some(place) => Some(first + place),
+        None => None,
+    }
+}
+
+fn first_ready_in(clusters: &[Cluster]) -> Option<usize>
+    ensures value { result ≡ position is_ready clusters.now }
+    ensures bound { IfSome result (λ place. place < length clusters.now) }
+{
     clusters.iter().position(|c| c.is_ready())
+}
+
+// Writes a cluster in its place, and what is known of those that have a result.
+fn write(held: &mut Vec<Cluster>, ready: &mut Readiness, id: usize, cluster: Cluster)
+    requires below { id < length held.old.items }
+    requires few { length held.old.items < 2 ^ 32 }
+    requires known { AreReady ready.old held.old.items }
+    ensures items { held.new.items ≡ slice_set held.old.items id cluster }
+    ensures capacity { vec_capacity held.new ≡ vec_capacity held.old }
+    ensures known { AreReady ready.new held.new.items }
+{
+    let was = held[id].is_ready();
+    let is = cluster.is_ready();
+    held[id] = cluster;
+    let count = ready.count - u32::from(was) + u32::from(is);
+    *ready = Readiness {
+        count,
+        first: first_after(count, ready.first, id as u32, is, held.len() as u32),
+    };
+}
+
+// How many at the front have no result, where that of this id was written: all, if there is none.
+fn first_after(count: u32, first: u32, id: u32, is: bool, all: u32) -> u32
+    ensures { result ≡ first_after count first id is all }
+{
+    if count == 0 {
+        all
+    } else if is {
+        first.min(id)
+    } else {
+        first
+    }
 }

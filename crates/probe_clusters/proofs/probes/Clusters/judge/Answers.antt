@@ -12,8 +12,8 @@ use Rattle.probe_clusters.proofs.probes.Clusters.judge.Goals as goal
 pub returns-in_default-clause-stands : goal.returns-in_default-clause-stands
 returns-in_default-clause-stands c = λ ds h. stands-unnoted c.args.self.now.items ds c.args.credit.now (search rules) h
 
-pub with_credit-requires-clause-small : goal.with_credit-requires-clause-small
-with_credit-requires-clause-small c =
+pub with_credit-cluster-requires-clause-small : goal.with_credit-cluster-requires-clause-small
+with_credit-cluster-requires-clause-small c =
     let items = c.args.self.now.items in
     let id = c.in-Some.id in
     let same : c.self.inside.held.items ≡ items = ap (λ (v : Listed Cluster). v.items) c.self.view_is in
@@ -29,7 +29,7 @@ returns-clause-items c =
     let same : c.self.inside.held.items ≡ items = ap (λ (v : Listed Cluster). v.items) c.self.view_is in
     let P : Option ℕ → Type 0 = λ o. IfSome o (λ k. k < length items) in
     let below : id < length items = subst P c.in-Some.is c.requires.named in
-    written (with_credit c.args.credit.now) c.self.inside.held.items items id c.index.result.now c.with_credit.result same below c.index.ensures c.with_credit.ensures
+    c.write.ensures.items ∙ written (with_credit c.args.credit.now) c.self.inside.held.items items id c.index.result.now c.with_credit-cluster.result same below c.index.ensures c.with_credit-cluster.ensures
     ∙ ap (λ (o : Option ℕ). changed_where (with_credit c.args.credit.now) o items) (sym c.in-Some.is)
 
 pub returns-clause-stands : goal.returns-clause-stands
@@ -39,7 +39,7 @@ returns-clause-stands c = λ ds h.
     let same : c.self.inside.held.items ≡ items = ap (λ (v : Listed Cluster). v.items) c.self.view_is in
     let P : Option ℕ → Type 0 = λ o. IfSome o (λ k. k < length items) in
     let below : id < length items = subst P c.in-Some.is c.requires.named in
-    let new = written (with_credit c.args.credit.now) c.self.inside.held.items items id c.index.result.now c.with_credit.result same below c.index.ensures c.with_credit.ensures in
+    let new = c.write.ensures.items ∙ written (with_credit c.args.credit.now) c.self.inside.held.items items id c.index.result.now c.with_credit-cluster.result same below c.index.ensures c.with_credit-cluster.ensures in
     let P : List Cluster → Type 0 = λ cs. StandsFor cs (ds ++ Note c.args.credit.now ∷ []) in
     subst P (sym new) (stands-noted items ds c.args.credit.now id c.in-Some.is below h)
 
@@ -50,7 +50,7 @@ returns-clause-reached c = λ sends credits h.
     let same : c.self.inside.held.items ≡ items = ap (λ (v : Listed Cluster). v.items) c.self.view_is in
     let P : Option ℕ → Type 0 = λ o. IfSome o (λ k. k < length items) in
     let below : id < length items = subst P c.in-Some.is c.requires.named in
-    let new = written (with_credit c.args.credit.now) c.self.inside.held.items items id c.index.result.now c.with_credit.result same below c.index.ensures c.with_credit.ensures in
+    let new = c.write.ensures.items ∙ written (with_credit c.args.credit.now) c.self.inside.held.items items id c.index.result.now c.with_credit-cluster.result same below c.index.ensures c.with_credit-cluster.ensures in
     let P : List Cluster → Type 0 = λ cs. ReachedBy (sends + 0) (credits + 1) cs in
     reached-more (sends + 0) (credits + 1) sends (credits + 1) _ (omega arith) (omega arith)
     (subst P (sym new) (reached-push sends credits items (changed (with_credit c.args.credit.now) id items) (Note c.args.credit.now) c.requires.size

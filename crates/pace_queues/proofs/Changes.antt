@@ -1,5 +1,5 @@
 -- The rings after a push and after a pop.
-use Rattle.std.proofs.Common.{◌≡◌, ◌⊎◌, inl, inr, ℕ, suc, zero, ◌+◌, ◌-◌, ◌<◌, ◌≤◌, ◌==◌, ◌^◌, Bool, true, false, not, Option, Some, List, [], ◌∷◌, ◌++◌, length, All, AllPairs, cond, refl, sym, ◌∙◌, ap, arith, get_or, drop, length-append, sum_by}
+use Rattle.std.proofs.Common.{◌≡◌, ◌⊎◌, inl, inr, ℕ, ◌+◌, ◌-◌, ◌<◌, ◌≤◌, ◌==◌, ◌^◌, Bool, true, false, not, Some, List, [], ◌∷◌, ◌++◌, length, All, AllPairs, cond, refl, sym, ◌∙◌, ap, arith, drop, length-append, sum_by}
 use Rattle.std.proofs.lemmas.Bool.Decides.{nat_tests}
 use Rattle.std.proofs.lemmas.List.{append-nil}
 use Rattle.std.proofs.lemmas.List.Elements.{All-nil, All-cons, All-head, All-tail, All-push, All-weaker, All-contains, Contains-append_right, filter-append}

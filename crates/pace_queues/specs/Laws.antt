@@ -1,9 +1,8 @@
 -- What follows of the words of `Waiting`: the next one is the least pair, and what is left is all but
 -- just that one.
-use Rattle.std.proofs.Common.{◌≡◌, inl, inr, ℕ, suc, zero, ◌≤◌, ◌==◌, Bool, true, false, not, Option, None, Some, IfSome, IsNone, ◌↔◌, List, [], ◌∷◌, length, All, AllPairs, Contains, filter, cond, fold, refl, ap, subst, arith, get_or}
+use Rattle.std.proofs.Common.{◌≡◌, inl, inr, ℕ, suc, zero, ◌==◌, Bool, true, false, not, Option, None, Some, IfSome, IsNone, ◌↔◌, List, [], ◌∷◌, All, AllPairs, Contains, filter, fold, refl, ap, subst, arith, get_or}
 use Rattle.std.proofs.lemmas.Bool.Decides.{nat_tests}
 use Rattle.std.proofs.lemmas.List.Elements.{All-nil, All-cons, All-head, All-tail, All-contains, All-filter, Contains-append_right}
-use Rattle.std.proofs.lemmas.List.Kept.{AllPairs-filter}
 use Rattle.pace_queues.specs.declared.ticket.Ticket.{Ticket}
 use Rattle.pace_queues.specs.Waiting.{goes_before, better, next, without, GoesNoLater, IsLeast, LosesJust, CameBefore}
 

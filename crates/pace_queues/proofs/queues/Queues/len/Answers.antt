@@ -1,5 +1,3 @@
-use Rattle.std.proofs.Common.{◌≡◌, List, length, ap, arith}
-use Rattle.pace_queues.specs.declared.ticket.Ticket.{Ticket}
 use Rattle.pace_queues.proofs.Rings.{length-parts}
 use Rattle.pace_queues.proofs.Changes.{list-is}
 use Rattle.pace_queues.proofs.queues.Queues.len.Goals as goal

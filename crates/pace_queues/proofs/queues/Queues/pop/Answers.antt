@@ -1,5 +1,4 @@
-use Rattle.std.proofs.Common.{◌≡◌, ◌≤◌, refl, arith}
-use Rattle.gcc_units.specs.Priority.{rank_of}
+use Rattle.std.proofs.Common.{refl, arith}
 use Rattle.pace_queues.proofs.Changes.{bytes-hold, accepted-hold, Kept-pop, rest-pop, loses-pop, popped-first, popped-second, popped-third, last-rank}
 use Rattle.pace_queues.proofs.queues.Queues.pop.Goals as goal
 

@@ -1,5 +1,4 @@
-use Rattle.std.proofs.Common.{◌≡◌, ◌<◌, ◌^◌, length, refl, arith}
-use Rattle.gcc_units.specs.Priority.{rank_of}
+use Rattle.std.proofs.Common.{◌<◌, length, refl, arith}
 use Rattle.gcc_units.specs.declared.limits.TheConstants.{MOST_WAITING}
 use Rattle.pace_queues.specs.Rings.{Fits}
 use Rattle.pace_queues.proofs.Changes.{bytes-fit, accepted-fit, Kept-push, list-push, pushed-first, pushed-second, pushed-third, last-rank}

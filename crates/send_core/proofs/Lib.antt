@@ -14,3 +14,4 @@ pub mod Stamped
 pub mod Tallies
 pub mod First
 pub mod Applied
+pub mod Refusing

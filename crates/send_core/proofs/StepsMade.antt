@@ -69,7 +69,7 @@ refused-nothing (call_kind.Pace at) moment cause = record { accepts = refl; send
 refused-nothing (call_kind.Report at bytes) moment cause = record { accepts = refl; sends = refl; events = refl; estimates = λ s ds e. refl; deeds = λ b ds. refl; streams = λ ss. refl; settings = λ s. refl; starts = refl }
 refused-nothing (call_kind.Configure at change) moment cause = record { accepts = refl; sends = refl; events = refl; estimates = λ s ds e. refl; deeds = λ b ds. refl; streams = λ ss. refl; settings = λ s. refl; starts = refl }
 
-or-no : (b : Bool) → b ≡ (b || false)
+pub or-no : (b : Bool) → b ≡ (b || false)
 or-no true = refl
 or-no false = refl
 

@@ -11,3 +11,4 @@ pub mod Settled
 pub mod Stands
 pub mod Outcomes
 pub mod Planning
+pub mod Refusals

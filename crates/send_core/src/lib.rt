@@ -6,6 +6,7 @@ mod call;
 mod checks;
 mod copies;
 mod journal;
+mod laws;
 mod parts;
 mod planning;
 mod recording;
@@ -16,6 +17,7 @@ mod telling;
 
 pub use call::{Answer, ApplyFault, Call, Cause, Change, Entry, Rates, Reply};
 pub use journal::Journal;
+pub use laws::refused_calls_change_nothing_else;
 pub use sender::Sender;
 pub use settings::START_RATE;
 

@@ -15,3 +15,5 @@ pub mod Tallies
 pub mod First
 pub mod Applied
 pub mod Refusing
+pub mod FewSends
+pub mod FewCredits

@@ -12,3 +12,4 @@ pub mod Stands
 pub mod Outcomes
 pub mod Planning
 pub mod Refusals
+pub mod Bounds

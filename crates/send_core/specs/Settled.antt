@@ -3,9 +3,6 @@ use Rattle.std.specs.Prelude.{◌≡◌, ℕ, ◌≤◌, List, [], length}
 use Rattle.gcc_units.specs.declared.shared_types.Credit.{Credit}
 use Rattle.gcc_units.specs.declared.shared_types.Share.{Share}
 use Rattle.gcc_units.specs.Listed.{bare}
-use Rattle.gcc_units.specs.declared.limits.TheConstants.{MOST_SENDS}
-use Rattle.send_core.specs.declared.call.Call.{Call}
-use Rattle.send_core.specs.declared.call.Call.TheVariants.{Enqueue, Pace, Report, Configure}
 use Rattle.send_core.specs.declared.call.Reply.{Reply}
 use Rattle.send_core.specs.declared.copies.Rooms.{Rooms}
 use Rattle.send_core.specs.History.{sent_by}
@@ -36,10 +33,3 @@ pub record HasRoom (given : Reply) (room : Rooms) : Type 0 where
   pub records : length (sent_by given) ≤ room.sent.spare
   pub credits : length (credits_by given) ≤ room.received.spare
   pub shares : length (shares_by given) ≤ room.shares.spare
-
--- the most records that a reply to the call may have
-abbrev pub sends_of : Call → ℕ
-sends_of (Enqueue at class wire) = 0
-sends_of (Pace at) = MOST_SENDS
-sends_of (Report at bytes) = 0
-sends_of (Configure at change) = 0

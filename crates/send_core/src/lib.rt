@@ -2,6 +2,7 @@
 //! of the calls before it.
 #![tactic(auto)]
 
+mod bounds;
 mod call;
 mod checks;
 mod copies;

@@ -1,7 +1,9 @@
 //! What a sender keeps beside its journal.
 
 ghost use Rattle.std.specs.Prelude.{◌≡◌, ◌≤◌, ◌<◌, [], List, length, max, OnErr, IfOk};
+ghost use Rattle.gcc_units.specs.Listed.{bare};
 
+use crate::bounds::count_received;
 use crate::call::{Call, Cause, Change, Reply};
 use crate::checks::{MOST_PLANS, fault_of, has_any};
 use crate::copies::{Rooms, room};
@@ -22,6 +24,16 @@ use rtp_wire::read_wire;
 use sent_history::History;
 use std::alloc::Global;
 use twcc_report::{ReadReport, read_report};
+
+// What was judged, without memory that no credit uses.
+fn trimmed(judged: Judged) -> Judged
+    requires { judged.received ≡ bare judged.received.items }
+    ensures { result ≡ judged }
+{
+    let mut judged = judged;
+    judged.received.trim();
+    judged
+}
 
 /// The counts, the pacer, the sent packets, the estimates, the clusters, the streams and the settings,
 /// as the journal determines them.
@@ -48,13 +60,13 @@ impl Parts {
     ghost use Rattle.send_core.specs.History.{sent_by};
     ghost use Rattle.send_core.specs.Reply.{reply};
     ghost use Rattle.std.specs.Option.{ForSome};
-    ghost use Rattle.gcc_units.specs.Listed.{bare};
     ghost use Rattle.gcc_units.specs.Rates.{IsRate};
     ghost use Rattle.send_core.specs.Outcomes.{TakesJudged, Credits, Configures};
     ghost use Rattle.send_core.specs.Planning.{CanPlan};
     ghost use Rattle.send_core.specs.Reply.{standing};
     ghost use Rattle.send_core.specs.Settings.{fault_of, plans, settings_after};
-    ghost use Rattle.send_core.specs.Settled.{IsSettled, HasRoom, sends_of, credits_by, shares_by};
+    ghost use Rattle.send_core.specs.Settled.{IsSettled, HasRoom, credits_by, shares_by};
+    ghost use Rattle.send_core.specs.Bounds.{most_paced, most_sends};
     ghost use Rattle.send_core.specs.Stands.{StandsFor, StandsForShort, Steps, pacing_for, AreSettings};
 
     /// The parts of a sender that nothing was asked of yet.
@@ -165,7 +177,7 @@ impl Parts {
         ensures answer { (history : List Entry) → StandsFor self.old history → result ≡ reply history (call_kind.Pace at) }
         ensures steps { Steps (call_kind.Pace at) result self.old self.new }
         ensures settled { IsSettled result }
-        ensures few { length (sent_by result) ≤ MOST_SENDS }
+        ensures few { length (sent_by result) ≤ most_paced self.old }
         ensures received { credits_by result ≡ [] }
         ensures shares { shares_by result ≡ [] }
     {
@@ -179,8 +191,51 @@ impl Parts {
         let moment = self.pacer.moment();
         record_sent(&mut self.history, moment, sent.as_slice());
         self.tune();
-        sent.settle();
+        sent.trim();
         Reply::Paced { at: moment, sent }
+    }
+
+    /// A pace where nothing may leave.
+    fn pace_nothing(&mut self, at: u64, none: SentList) -> Reply
+        requires stands { StandsForShort self.old }
+        requires empty { none ≡ bare [] }
+        requires nothing { most_paced self.old ≡ 0 }
+        ensures answer { (history : List Entry) → StandsFor self.old history → result ≡ reply history (call_kind.Pace at) }
+        ensures steps { Steps (call_kind.Pace at) result self.old self.new }
+        ensures settled { IsSettled result }
+        ensures sends { sent_by result ≡ [] }
+        ensures received { credits_by result ≡ [] }
+        ensures shares { shares_by result ≡ [] }
+    {
+        if at > GREATEST_MOMENT {
+            return self.refuse_late();
+        }
+        self.move_to(at);
+        self.tune();
+        Reply::Paced {
+            at: self.pacer.moment(),
+            sent: none,
+        }
+    }
+
+    /// What may leave now is sent, at most so many packets. At `NoMemory` nothing has changed. Beside
+    /// the reply comes room for its lists once more.
+    fn pace_within(&mut self, alloc: Global, at: u64, most: u32) -> Result<(Reply, Rooms), NoMemory>
+        requires stands { StandsForShort self.old }
+        requires most { most ≡ most_paced self.old }
+        ensures answer { IfOk result (λ r. (history : List Entry) → StandsFor self.old history → r.0 ≡ reply history (call_kind.Pace at)) }
+        ensures steps { IfOk result (λ r. Steps (call_kind.Pace at) r.0 self.old self.new) }
+        ensures settled { IfOk result (λ r. IsSettled r.0) }
+        ensures sends { IfOk result (λ r. length (sent_by r.0) ≤ most) }
+        ensures room { IfOk result (λ r. HasRoom r.0 r.1) }
+        ensures err { OnErr result (self.new ≡ self.old) }
+    {
+        let rooms = room(alloc, most, 0, 0)?;
+        if most == 0 {
+            return Ok((self.pace_nothing(at, SentList::new(alloc)), rooms));
+        }
+        let kept = room(alloc, MOST_SENDS, 0, 0)?.sent;
+        Ok((self.pace(at, kept), rooms))
     }
 
     /// A report came. At `NoMemory` nothing has changed. Beside the reply comes room for its lists once
@@ -207,7 +262,7 @@ impl Parts {
                 return Ok((self.refuse(Cause::Report(fault)), rooms));
             }
         };
-        let rooms = room(alloc, 0, report.statuses.len(), MOST_STREAMS)?;
+        let rooms = room(alloc, 0, count_received(&report.statuses), MOST_STREAMS)?;
         let shares = room(alloc, 0, 0, MOST_STREAMS)?.shares;
         let judged = self.history.credit(alloc, &report)?;
         self.move_to(at);
@@ -236,7 +291,7 @@ impl Parts {
         self.tune();
         Reply::Credited {
             at: self.pacer.moment(),
-            judged,
+            judged: trimmed(judged),
             signal: estimate.signal,
             m: estimate.m,
             acked: estimate.acked,
@@ -321,14 +376,20 @@ impl Parts {
         }
     }
 
-    /// Serves one call. At `NoMemory` nothing has changed. Beside the reply comes room for its lists
-    /// once more.
-    pub fn serve(&mut self, alloc: Global, call: &Call) -> Result<(Reply, Rooms), NoMemory>
-        requires { StandsForShort self.old }
+    /// Serves one call, with which at most so many packets leave. At `NoMemory` nothing has changed.
+    /// Beside the reply comes room for its lists once more.
+    pub fn serve(
+        &mut self,
+        alloc: Global,
+        call: &Call,
+        most: u32,
+    ) -> Result<(Reply, Rooms), NoMemory>
+        requires stands { StandsForShort self.old }
+        requires most { most ≡ most_sends self.old call.now }
         ensures answer { IfOk result (λ r. (history : List Entry) → StandsFor self.old history → r.0 ≡ reply history call.now) }
         ensures steps { IfOk result (λ r. Steps call.now r.0 self.old self.new) }
         ensures settled { IfOk result (λ r. IsSettled r.0) }
-        ensures sends { IfOk result (λ r. length (sent_by r.0) ≤ sends_of call.now) }
+        ensures sends { IfOk result (λ r. length (sent_by r.0) ≤ most) }
         ensures room { IfOk result (λ r. HasRoom r.0 r.1) }
         ensures err { OnErr result (self.new ≡ self.old) }
     {
@@ -337,11 +398,7 @@ impl Parts {
                 let rooms = room(alloc, 0, 0, 0)?;
                 Ok((self.enqueue(*at, *class, wire), rooms))
             }
-            Call::Pace { at } => {
-                let kept = room(alloc, MOST_SENDS, 0, 0)?.sent;
-                let rooms = room(alloc, MOST_SENDS, 0, 0)?;
-                Ok((self.pace(*at, kept), rooms))
-            }
+            Call::Pace { at } => self.pace_within(alloc, *at, most),
             Call::Report { at, bytes } => self.report(alloc, *at, bytes),
             Call::Configure { at, change } => self.configure(alloc, *at, change),
         }

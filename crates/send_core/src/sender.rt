@@ -2,11 +2,12 @@
 
 ghost use Rattle.std.specs.Prelude.{◌≡◌, ℕ, ◌+◌, ◌*◌, ◌<◌, ◌≤◌, ◌↔◌, [], ◌∷◌, ◌++◌, length, min, IfOk, IfErr, OnOk, IsErr};
 
+use crate::bounds::most_sends;
 use crate::call::{Answer, ApplyFault, Call, Entry};
 use crate::copies::twin;
 use crate::journal::Journal;
 use crate::parts::Parts;
-use crate::stamping::{most_sends, stamp_all, wire_room};
+use crate::stamping::{stamp_all, wire_room};
 use gcc_units::{BOARD_LENGTHS, GREATEST_RATE, MOST_ENTRIES, NoMemory, Rate};
 use std::alloc::Global;
 use std::marker::Model;
@@ -74,11 +75,12 @@ impl Sender {
         if self.journal.reserve().is_err() {
             return Err((ApplyFault::NoMemory, call));
         }
-        let Ok(packets) = wire_room(alloc, most_sends(&call)) else {
+        let most = most_sends(&self.parts, &call);
+        let Ok(packets) = wire_room(alloc, most) else {
             return Err((ApplyFault::NoMemory, call));
         };
         let id = self.parts.settings.extension_id as u8;
-        let Ok((reply, rooms)) = self.parts.serve(alloc, &call) else {
+        let Ok((reply, rooms)) = self.parts.serve(alloc, &call, most) else {
             return Err((ApplyFault::NoMemory, call));
         };
         let answer = Answer {

@@ -4,28 +4,16 @@ ghost use Rattle.std.specs.Prelude.{◌≡◌, ◌+◌, ◌*◌, ◌≤◌, ◌<
 ghost use Rattle.pacer.specs.Pace.{NamesBelow};
 ghost use Rattle.rtp_wire.specs.Wires.{bare_wires};
 ghost use Rattle.send_core.specs.History.{accepted, sent_by};
-ghost use Rattle.send_core.specs.Settled.{sends_of};
 ghost use Rattle.send_core.specs.Stands.{IsReadable};
 ghost use Rattle.send_core.specs.Wires.{wire_of};
 
-use crate::call::{Call, Reply};
+use crate::call::Reply;
 use crate::journal::Journal;
 use crate::settings::{GREATEST_EXTENSION, LEAST_EXTENSION};
 use gcc_units::{GREATEST_PACKET, MOST_SENDS, NoMemory};
 use pacer::Sent;
 use rtp_wire::{WireList, read_wire};
 use std::alloc::Global;
-
-/// How many packets leave with a call at the most.
-pub fn most_sends(call: &Call) -> u32
-    ensures value { result ≡ sends_of call.now }
-    ensures few { result ≤ MOST_SENDS }
-{
-    match call {
-        Call::Pace { .. } => MOST_SENDS,
-        Call::Enqueue { .. } | Call::Report { .. } | Call::Configure { .. } => 0,
-    }
-}
 
 /// Room for the packets of so many records.
 pub fn wire_room(alloc: Global, sends: u32) -> Result<WireList, NoMemory>

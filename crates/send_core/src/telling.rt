@@ -35,6 +35,6 @@ pub fn shares_of(target: Rate, streams: &StreamSet, room: ShareList) -> ShareLis
 {
     let mut given = room;
     allocate(target, streams, &mut given);
-    given.settle();
+    given.trim();
     given
 }

@@ -1,4 +1,4 @@
-use Rattle.std.proofs.Common.{◌≡◌, ◌≤◌, ◌++◌, List, length, map, max, sym, ◌∙◌, ap, subst, arith}
+use Rattle.std.proofs.Common.{◌≡◌, ℕ, ◌≤◌, ◌++◌, List, length, map, max, sym, ◌∙◌, ap, subst, arith}
 use Rattle.sent_history.specs.Events.{Event, packets}
 use Rattle.sent_history.specs.Kept as history_kept
 use Rattle.pacer.specs.declared.sent.Sent.{Sent}
@@ -11,6 +11,8 @@ use Rattle.send_core.specs.Reports.{events, added_of}
 use Rattle.gcc_units.specs.Listed.{Listed}
 use Rattle.gcc_units.specs.declared.limits.TheConstants.{GREATEST_MOMENT, MOST_SENDS}
 use Rattle.send_core.specs.declared.call.Call.TheVariants as call_kind
+use Rattle.send_core.specs.Bounds.{most_paced}
+use Rattle.send_core.proofs.FewSends.{paced-most}
 use Rattle.send_core.proofs.StepsMade.{steps_late}
 use Rattle.send_core.proofs.PaceMade.{paced-answer, takes-sent, steps_paced}
 use Rattle.send_core.proofs.parts.Parts.pace.Goals as goal
@@ -37,22 +39,23 @@ returns-clause-answer c = λ h s.
     let early : c.args.at ≤ GREATEST_MOMENT = omega arith in
     let number : c.sent.result ≡ length (packets (events h)) =
     c.sent.ensures (events h) (subst (λ v. history_kept.StandsFor v (events h)) (sym (ap (λ (p : Parts). p.history) c.move_to.ensures)) s.packets) in
-    paced-answer h c.args.self.now c.move_to.new.self c.args.at c.sent.result c.moment-moment.result c.pace.new.out.items c.settle.new.self s early c.move_to.ensures number
-    c.pace.ensures.records (c.moment-moment.ensures.value ∙ ap (λ (t : State). t.moment) c.pace.ensures.left) c.settle.ensures
+    paced-answer h c.args.self.now c.move_to.new.self c.args.at c.sent.result c.moment-moment.result c.pace.new.out.items c.trim.new.self s early c.move_to.ensures number
+    c.pace.ensures.records (c.moment-moment.ensures.value ∙ ap (λ (t : State). t.moment) c.pace.ensures.left) c.trim.ensures
 
 pub returns-clause-steps : goal.returns-clause-steps
 returns-clause-steps c =
     let early : c.args.at ≤ GREATEST_MOMENT = omega arith in
-    steps_paced c.args.at c.moment-moment.result c.sent.result c.pace.new.out.items c.settle.new.self c.pace.new.self c.pace.new.clusters c.record_sent.new.history
+    steps_paced c.args.at c.moment-moment.result c.sent.result c.pace.new.out.items c.trim.new.self c.pace.new.self c.pace.new.clusters c.record_sent.new.history
     c.args.self.now c.move_to.new.self c.tune.new.self early c.move_to.ensures c.pace.ensures.left c.pace.ensures.stands c.moment-moment.ensures.value
     (subst (λ rs. (es : List Event) → history_kept.StandsFor c.move_to.new.self.history es → history_kept.StandsFor c.record_sent.new.history (es ++ map (added_of c.moment-moment.result) rs))
     c.as_slice.ensures.items c.record_sent.ensures)
-    c.tune.ensures c.settle.ensures
+    c.tune.ensures c.trim.ensures
 
 pub returns-clause-few : goal.returns-clause-few
 returns-clause-few c =
-    let few : length (paced MOST_SENDS (terms c.move_to.new.self.pacer) (standing c.move_to.new.self.pacer c.move_to.new.self.clusters.items c.sent.result)) ≤ MOST_SENDS =
-    paced-few MOST_SENDS (terms c.move_to.new.self.pacer) (standing c.move_to.new.self.pacer c.move_to.new.self.clusters.items c.sent.result) in
-    let many : length c.settle.new.self.items ≡ length (paced MOST_SENDS (terms c.move_to.new.self.pacer) (standing c.move_to.new.self.pacer c.move_to.new.self.clusters.items c.sent.result)) =
-    ap (λ (v : Listed Sent). length v.items) c.settle.ensures ∙ ap length c.pace.ensures.records in
-    omega arith
+    within _ _ _ (ap (λ (v : Listed Sent). length v.items) c.trim.ensures ∙ ap length c.pace.ensures.records)
+    (subst (λ (y : Parts). length (paced MOST_SENDS (terms y.pacer) (standing y.pacer y.clusters.items c.sent.result)) ≤ most_paced c.args.self.now) (sym c.move_to.ensures)
+    (paced-most c.args.self.now (max c.args.self.now.pacer.moment c.args.at) c.sent.result))
+  where
+    within : (m n most : ℕ) → m ≡ n → n ≤ most → m ≤ most
+    within m n most e h = omega arith

@@ -1,10 +1,13 @@
-use Rattle.std.proofs.Common.{◌≡◌, ◌≤◌, length, max, Ok, subst, arith}
+use Rattle.std.proofs.Common.{◌≡◌, ℕ, ◌≤◌, List, [], length, max, Ok, subst, arith}
+use Rattle.gcc_units.specs.declared.shared_types.Credit.{Credit}
+use Rattle.pacer.specs.declared.sent.Sent.{Sent}
 use Rattle.gcc_units.specs.declared.limits.TheConstants.{GREATEST_MOMENT, MOST_STATUSES}
 use Rattle.send_core.specs.declared.call.Call.TheVariants as call_kind
 use Rattle.send_core.proofs.StepsMade.{steps_late, steps_refused}
 use Rattle.twcc_report.specs.Reading.{read_of}
 use Rattle.twcc_report.specs.Spelling.{view}
 use Rattle.send_core.specs.Reports.{events}
+use Rattle.send_core.proofs.FewCredits.{credits-few}
 use Rattle.send_core.proofs.Judging.{judged-taken, credited-answer, steps_credited}
 use Rattle.send_core.proofs.parts.Parts.report.Goals as goal
 
@@ -40,3 +43,25 @@ returns-clause-steps c =
     let few : length c.in-Ok.report.statuses.items ≤ MOST_STATUSES = omega (arith, c.in-Ok.ensures.fits.few) in
     steps_credited c.requires.0 c.args.self.now c.move_to-2.new.self c.credited.new.self c.args.at c.args.bytes.now (view c.in-Ok.report) c.in_ok-judged.judged c.credited.result c.credit.new.self c.requires.1
     early c.move_to-2.ensures read c.in_ok-judged.ensures.stands few c.credited.ensures.credits
+
+pub returns-clause-room : goal.returns-clause-room
+returns-clause-room c =
+    let few : length c.in_ok-judged.judged.received.items ≤ c.count_received.result =
+    within _ _ _ c.count_received.ensures (credits-few (events c.requires.0) (view c.in-Ok.report) c.in_ok-judged.judged (c.in_ok-judged.ensures.judged (events c.requires.0) c.requires.1.packets)) in
+    record {
+      no_records = c.in_ok-rooms-2.ensures.no_records;
+      no_credits = c.in_ok-rooms-2.ensures.no_credits;
+      no_shares = c.in_ok-rooms-2.ensures.no_shares;
+      records = none _ _ c.credited.ensures.sends;
+      credits = fits _ _ _ _ c.credited.ensures.received few c.in_ok-rooms-2.ensures.credits;
+      shares = omega (arith, c.credited.ensures.shares, c.in_ok-rooms-2.ensures.shares);
+    }
+  where
+    within : (n m most : ℕ) → most ≡ m → n ≤ m → n ≤ most
+    within n m most e h = omega arith
+
+    none : (records : List Sent) (n : ℕ) → records ≡ [] → length records ≤ n
+    none records n e = rw e (omega arith)
+
+    fits : (a b : List Credit) (n m : ℕ) → a ≡ b → length b ≤ n → n ≤ m → length a ≤ m
+    fits a b n m e h k = rw e (omega arith)

@@ -1,0 +1,62 @@
+//! How long the lists of a reply may get, known before they are made.
+
+ghost use Rattle.std.specs.Prelude.{◌≡◌, ◌≤◌, count_by};
+ghost use Rattle.sent_history.specs.Crediting.{is_received};
+ghost use Rattle.send_core.specs.Bounds.{is_quiet, most_paced, most_sends};
+
+use crate::call::Call;
+use crate::parts::Parts;
+use gcc_units::MOST_SENDS;
+use twcc_report::{Status, StatusList};
+
+// Whether the status says that its packet was received.
+fn is_received(status: Status) -> bool
+    ensures { result ≡ is_received status }
+{
+    match status {
+        Status::NotReceived => false,
+        Status::Small(_) => true,
+        Status::Large(_) => true,
+    }
+}
+
+/// How many packets the statuses name received.
+pub fn count_received(statuses: &StatusList) -> u32
+    ensures { result ≡ count_by is_received statuses.now.items }
+{
+    let statuses = statuses.as_slice();
+    statuses
+        .iter()
+        .filter(|status| is_received(**status))
+        .count() as u32
+}
+
+// Whether no cluster waits and no padding is asked for.
+fn is_quiet(parts: &Parts) -> bool
+    ensures { result ≡ is_quiet parts.now }
+{
+    parts.clusters.waiting() == 0 && parts.pacer.tally().padding_rate == 0
+}
+
+// How many packets leave with a pace at the most.
+fn most_paced(parts: &Parts) -> u32
+    ensures value { result ≡ most_paced parts.now }
+    ensures few { result ≤ MOST_SENDS }
+{
+    if is_quiet(parts) {
+        MOST_SENDS.min(parts.pacer.waiting())
+    } else {
+        MOST_SENDS
+    }
+}
+
+/// How many packets leave with a call at the most.
+pub fn most_sends(parts: &Parts, call: &Call) -> u32
+    ensures value { result ≡ most_sends parts.now call.now }
+    ensures few { result ≤ MOST_SENDS }
+{
+    match call {
+        Call::Pace { .. } => most_paced(parts),
+        Call::Enqueue { .. } | Call::Report { .. } | Call::Configure { .. } => 0,
+    }
+}

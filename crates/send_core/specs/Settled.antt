@@ -1,5 +1,5 @@
 -- Replies whose lists promise no room, so that two of them with the same items are the same.
-use Rattle.std.specs.Prelude.{◌≡◌, ℕ, ◌≤◌, List, [], length}
+use Rattle.std.specs.Prelude.{◌≡◌, ◌≤◌, List, [], length}
 use Rattle.gcc_units.specs.declared.shared_types.Credit.{Credit}
 use Rattle.gcc_units.specs.declared.shared_types.Share.{Share}
 use Rattle.gcc_units.specs.Listed.{bare}

@@ -1,10 +1,10 @@
 -- A trace that bytes begin with, and what stands behind it.
 use Rattle.std.proofs.Common.{◌≡◌, ℕ, ◌+◌, ◌-◌, ◌<◌, ◌≤◌, List, [], ◌∷◌, ◌++◌, length, take, Result, Ok, Err, refl, sym, ap, subst, ◌∙◌, arith, length-append}
 use Rattle.std.proofs.lemmas.List.{take_at}
-use Rattle.gcc_units.specs.declared.limits.TheConstants.{MOST_LINES}
+use Rattle.std.specs.List.{All}
 use Rattle.call_trace.specs.declared.fault.TheConstants.{BEHIND_END}
 use Rattle.call_trace.specs.declared.fault.TraceFault.{TraceFault}
-use Rattle.call_trace.specs.Plain.{Plain, settled, Fits}
+use Rattle.call_trace.specs.Plain.{Plain, settled, FitsLine}
 use Rattle.call_trace.specs.Fields.{Cut, lines_of}
 use Rattle.call_trace.specs.Steps.{◌>>=◌}
 use Rattle.call_trace.specs.Reading.{fault, Front, front_at, alone, trace_at, joined, counted_at}
@@ -54,15 +54,16 @@ pub record IsCounted (most : ℕ) (bytes : List ℕ) (trace : Plain) (n : ℕ) :
   pub spelled : IsTrace (take n bytes) trace
   pub within : n ≤ length bytes
   pub settled : trace ≡ settled trace
-  pub fits : Fits trace
+  pub few : length trace.lines ≤ most
+  pub fits : All (FitsLine trace.actors) trace.lines
 
 front_taken : (front back bytes : List ℕ) → bytes ≡ front ++ back → (take (length bytes - length back) bytes ≡ front) × (length bytes - length back ≡ length front)
 front_taken front back bytes is =
     let count : length bytes - length back ≡ length front = omega (arith, ap length is, length-append front back) in
     (ap (take (length bytes - length back)) is ∙ take_at front back (length bytes - length back) (sym count), count)
 
-pub counted_found : (most : ℕ) (bytes : List ℕ) (trace : Plain) (n : ℕ) → most ≤ MOST_LINES → counted_at most bytes ≡ Ok (trace, n) → IsCounted most bytes trace n
-counted_found most bytes trace n limit e =
+pub counted_found : (most : ℕ) (bytes : List ℕ) (trace : Plain) (n : ℕ) → counted_at most bytes ≡ Ok (trace, n) → IsCounted most bytes trace n
+counted_found most bytes trace n e =
     let a = bind_ok (front_at most bytes) (λ front. Ok (front.trace, length bytes - length (joined front.after (lines_of bytes).rest))) (trace, n) e in
     let pair = ok_is (a.0.trace, length bytes - length (joined a.0.after (lines_of bytes).rest)) (trace, n) a.2 in
     let trace-is : a.0.trace ≡ trace = ap (λ (p : Plain × ℕ). p.0) pair in
@@ -75,7 +76,8 @@ counted_found most bytes trace n limit e =
       spelled = subst (λ (x : List ℕ). IsTrace x trace) (sym taken) s.1;
       within = omega (arith, count-is);
       settled = read.settled;
-      fits = record { some_actor = read.some_actor; few_actors = read.few_actors; few_lines = omega (arith, read.few); each = read.fits };
+      few = read.few;
+      fits = read.fits;
     }
 
 pub counted_again : (most : ℕ) (bytes front back : List ℕ) (trace : Plain) → bytes ≡ front ++ back → IsTrace front trace → length trace.lines ≤ most → counted_at most bytes ≡ Ok (settled trace, length front)

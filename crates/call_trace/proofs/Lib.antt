@@ -16,6 +16,7 @@ pub mod Merging
 pub mod BadLines
 pub mod Faulty
 pub mod Fronts
+pub mod Exactly
 pub mod WrittenLists
 pub mod Present
 pub mod Compact

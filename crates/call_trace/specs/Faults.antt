@@ -13,8 +13,9 @@ use Rattle.call_trace.specs.declared.fault.ReadTrace.TheVariants as read_trace
 use Rattle.call_trace.specs.declared.trace.Line.{Line}
 use Rattle.call_trace.specs.Fields.{field, behind, lines_of}
 use Rattle.call_trace.specs.Settings.{SpellsChange, IsNoChange}
+use Rattle.call_trace.specs.Plain.{Plain}
 use Rattle.call_trace.specs.Reading.{fault}
-use Rattle.call_trace.specs.Grammar.{letter_of, IsHex, IsLine, header}
+use Rattle.call_trace.specs.Grammar.{letter_of, IsHex, IsLine, header, IsTrace}
 
 -- what stands in a field
 pub data Kind : Type 0 where
@@ -102,6 +103,33 @@ pub data IsFirstFault (most : ℕ) (bytes : List ℕ) (f : TraceFault) : Type 0 
 -- the fault of bytes that begin with no trace of at most so many lines of action
 abbrev pub IsFrontFault : ℕ → List ℕ → TraceFault → Type 0
 IsFrontFault most bytes f = IsFirstFault most bytes f × (f.reason ≢ BEHIND_END)
+
+-- ---- bytes that are a trace, and bytes that are none
+
+-- the bytes spell a trace of at most so many lines of action
+pub record HasTrace (most : ℕ) (bytes : List ℕ) : Type 0 where
+  pub trace : Plain
+  pub spelled : IsTrace bytes trace
+  pub few : length trace.lines ≤ most
+
+-- the bytes have a first bad line
+pub record HasFirstFault (most : ℕ) (bytes : List ℕ) : Type 0 where
+  pub found : TraceFault
+  pub first : IsFirstFault most bytes found
+
+-- the first of the bytes spell a trace of at most so many lines of action
+pub record HasFront (most : ℕ) (bytes : List ℕ) : Type 0 where
+  pub front : List ℕ
+  pub back : List ℕ
+  pub split : bytes ≡ front ++ back
+  pub trace : Plain
+  pub spelled : IsTrace front trace
+  pub few : length trace.lines ≤ most
+
+-- the bytes have a first bad line, up to the line `end`
+pub record HasFrontFault (most : ℕ) (bytes : List ℕ) : Type 0 where
+  pub found : TraceFault
+  pub first : IsFrontFault most bytes found
 
 -- a fact of the fault; where memory ran out, none is told
 abbrev pub IfFault : ReadTrace → (TraceFault → Type 0) → Type 0

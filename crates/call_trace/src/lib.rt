@@ -25,8 +25,10 @@ pub use fault::{
 };
 pub use fields::{cut, number};
 pub use laws::{
-    a_text_spells_one_change_or_none, lines_are_cut_at_line_feeds, lines_in_order_are_legal,
-    lines_in_order_merge, made_traces_have_all_calls, no_bytes_spell_two_traces,
+    a_line_is_an_action_or_has_a_first_bad_field, a_text_spells_one_change_or_none,
+    bytes_are_a_trace_or_have_a_first_fault, bytes_begin_with_a_trace_or_have_a_first_fault,
+    lines_are_cut_at_line_feeds, lines_in_order_are_legal, lines_in_order_merge,
+    made_traces_have_all_calls, no_bytes_spell_two_traces,
 };
 pub use making::make_trace;
 pub use reading::{next_line, read_front, read_trace};

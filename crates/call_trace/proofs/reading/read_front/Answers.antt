@@ -1,4 +1,4 @@
-use Rattle.std.proofs.Common.{◌≡◌, ◌≤◌, ℕ, List, length, take, Result, Ok, Err, subst, arith}
+use Rattle.std.proofs.Common.{◌≡◌, ◌≤◌, ℕ, List, length, take, Result, Ok, Err, subst}
 use Rattle.std.specs.Prelude.{IfOk, IfErr}
 use Rattle.gcc_units.specs.declared.limits.TheConstants.{MOST_LINES}
 use Rattle.gcc_units.specs.Listed.{bare}
@@ -15,19 +15,21 @@ use Rattle.call_trace.proofs.reading.read_front.Goals as goal
 
 module _ (bytes : List ℕ) where
   found : (result : Result (Trace × ℕ) ReadTrace) → GivesFront result (counted_at MOST_LINES bytes) → IfOk result (λ p. IsTrace (take p.1 bytes) (plain p.0))
-  found (Ok p) gives = (counted_found MOST_LINES bytes (plain p.0) p.1 (omega arith) gives).spelled
+  found (Ok p) gives = (counted_found MOST_LINES bytes (plain p.0) p.1 gives).spelled
   found (Err e) gives = tt
 
   within : (result : Result (Trace × ℕ) ReadTrace) → GivesFront result (counted_at MOST_LINES bytes) → IfOk result (λ p. p.1 ≤ length bytes)
-  within (Ok p) gives = (counted_found MOST_LINES bytes (plain p.0) p.1 (omega arith) gives).within
+  within (Ok p) gives = (counted_found MOST_LINES bytes (plain p.0) p.1 gives).within
   within (Err e) gives = tt
 
   fits : (result : Result (Trace × ℕ) ReadTrace) → GivesFront result (counted_at MOST_LINES bytes) → IfOk result (λ p. Fits (plain p.0))
-  fits (Ok p) gives = (counted_found MOST_LINES bytes (plain p.0) p.1 (omega arith) gives).fits
+  fits (Ok p) gives =
+      let read = counted_found MOST_LINES bytes (plain p.0) p.1 gives in
+      record { some_actor = read.spelled.some_actor; few_actors = read.spelled.few_actors; few_lines = read.few; each = read.fits }
   fits (Err e) gives = tt
 
   is_settled : (result : Result (Trace × ℕ) ReadTrace) → GivesFront result (counted_at MOST_LINES bytes) → IfOk result (λ p. p.0.lines ≡ bare p.0.lines.items) → IfOk result (λ p. IsSettled p.0)
-  is_settled (Ok p) gives lines = record { lines = lines; each = (counted_found MOST_LINES bytes (plain p.0) p.1 (omega arith) gives).settled }
+  is_settled (Ok p) gives lines = record { lines = lines; each = (counted_found MOST_LINES bytes (plain p.0) p.1 gives).settled }
   is_settled (Err e) gives lines = tt
 
   fault_is : (result : Result (Trace × ℕ) ReadTrace) → GivesFront result (counted_at MOST_LINES bytes) → IfErr result (λ e. IfFault e (λ f. IsFrontFault MOST_LINES bytes f))

@@ -1,5 +1,6 @@
 -- The object of the tests after one more entry, and its seats in a row.
-use Rattle.std.proofs.Common.{◌≡◌, ℕ, ◌+◌, ◌*◌, ◌%◌, ◌^◌, ◌<◌, ◌≤◌, List, [], ◌∷◌, ◌++◌, length, set, get_or, sym, ap, subst, ◌∙◌, arith, length-append}
+use Rattle.std.proofs.Common.{◌≡◌, ℕ, ◌+◌, ◌*◌, ◌%◌, ◌<◌, ◌≤◌, List, [], ◌∷◌, ◌++◌, length, set, get_or, sym, ap, subst, ◌∙◌, arith, length-append}
+use Rattle.gcc_units.specs.declared.limits.TheConstants.{BOARD_LENGTHS}
 use Rattle.turn_lock.specs.declared.entry.Entry.{Entry}
 use Rattle.turn_lock.specs.Seats.{TableId, SeatIs}
 use Rattle.turn_lock.specs.Names.{names, all_names, all_of_turn, count_of_turn, name_stays}
@@ -14,9 +15,9 @@ adding_more t [] e a even r = (even, (let z : t + 0 ≡ t = omega arith in r ∙
 adding_more t (d ∷ h) e a even r = (a.0, a.1, adding_more (t + d.call) h e a.2 even (omega arith))
 
 abbrev pub Sound : ℕ → List (Entry ℕ ℕ) → Type 0
-Sound total h = IsAdding 0 h × (total ≡ total_of h) × (total ≤ 1000 * length h) × (length h < 2 ^ 20)
+Sound total h = IsAdding 0 h × (total ≡ total_of h) × (total ≤ 1000 * length h) × (length h < BOARD_LENGTHS)
 
-pub adds_entry : (total n : ℕ) (h new : List (Entry ℕ ℕ)) (e : Entry ℕ ℕ) → new ≡ h ++ e ∷ [] → Sound total h → e.call % 2 ≡ 0 → e.call ≤ 1000 → n ≡ e.call → e.reply ≡ total + n → length h < 1048575 → Sound (total + n) new
+pub adds_entry : (total n : ℕ) (h new : List (Entry ℕ ℕ)) (e : Entry ℕ ℕ) → new ≡ h ++ e ∷ [] → Sound total h → e.call % 2 ≡ 0 → e.call ≤ 1000 → n ≡ e.call → e.reply ≡ total + n → length h + 1 < BOARD_LENGTHS → Sound (total + n) new
 adds_entry total n h new e is s even small same reply room =
     let t = total_more h e in
     let l = length-append h (e ∷ []) in

@@ -6,6 +6,7 @@ use Rattle.std.specs.List.{filter}
 use mathlib.Core.Option.{some}
 use lib.ListN.{get_elem?}
 use Rattle.atomic_table.specs.Table.{State}
+use Rattle.gcc_units.specs.declared.limits.TheConstants.{BOARD_LENGTHS}
 use Rattle.turn_lock.specs.declared.entry.Entry.{Entry}
 use Rattle.turn_lock.specs.declared.view.View.{View}
 
@@ -54,9 +55,9 @@ module _ {C R : Type 0} where
   abbrev pub BothGive : View C R → View C R → Type 0
   BothGive v w = (v.given ≢ 0) × (w.given ≢ 0)
 
-  -- legal, below 2^20 entries, and with the length in the low 20 bits of the board
+  -- legal, with fewer entries than a board can tell apart, whose number the board tells
   abbrev pub Lawful : (List (Entry C R) → Type 0) → (List (Entry C R) → ℕ) → List (Entry C R) → Type 0
-  Lawful legal board log = legal log × (length log < 2 ^ 20) × (board log % 2 ^ 20 ≡ length log)
+  Lawful legal board log = legal log × (length log < BOARD_LENGTHS) × (board log % BOARD_LENGTHS ≡ length log)
 
 -- what holds of one view, where the history is log, `count` views have a ticket and `made` numbers
 -- are given out

@@ -3,11 +3,12 @@ ghost use Rattle.std.specs.Prelude.{◌≡◌, ◌≤◌, [], length};
 
 use crate::entry::Entry;
 use crate::object::Object;
+use gcc_units::BOARD_LENGTHS;
 use std::alloc::{AllocFailed, Global};
 use std::marker::Model;
 
-/// The most entries of a history: 2^20 - 1.
-pub const MOST: usize = 1_048_575;
+/// The most entries of a history, one fewer than a board can tell apart.
+pub const MOST: usize = BOARD_LENGTHS as usize - 1;
 
 /// A number up to 1,000.
 #[derive(Drop)]
@@ -62,12 +63,13 @@ impl Model for Adder {
 
     ghost Value = { List (Entry ℕ ℕ) };
 
-    ghost use Rattle.std.specs.Prelude.{◌≡◌, ◌*◌, ◌^◌, ◌<◌, ◌≤◌, length};
+    ghost use Rattle.std.specs.Prelude.{◌≡◌, ◌*◌, ◌<◌, ◌≤◌, length};
+    ghost use Rattle.gcc_units.specs.declared.limits.TheConstants.{BOARD_LENGTHS};
     ghost use Rattle.turn_lock.specs.Adding.{IsAdding, total_of};
 
     ghost view = { λ a. a.entries.items };
 
-    ghost invariant = { λ a. IsAdding 0 a.entries.items × (a.total ≡ total_of a.entries.items) × (a.total ≤ 1000 * length a.entries.items) × (length a.entries.items < 2 ^ 20) };
+    ghost invariant = { λ a. IsAdding 0 a.entries.items × (a.total ≡ total_of a.entries.items) × (a.total ≤ 1000 * length a.entries.items) × (length a.entries.items < BOARD_LENGTHS) };
 }
 
 impl Adder {
@@ -89,6 +91,8 @@ impl Object for Adder {
     type Fault = Refusal;
 
     ghost use Rattle.std.specs.Prelude.{◌≡◌, ◌≢◌, ◌+◌, ◌*◌, ◌%◌, ◌<◌, length};
+    ghost use Rattle.gcc_units.specs.declared.limits.TheConstants.{BOARD_LENGTHS};
+    ghost use Rattle.turn_lock.specs.declared.adder.TheConstants.{MOST};
     ghost use Rattle.turn_lock.specs.declared.adder.Refusal.TheVariants.{Odd, Full, NoMemory};
     ghost use Rattle.turn_lock.specs.Adding.{IsAdding, total_of};
 
@@ -98,9 +102,9 @@ impl Object for Adder {
 
     // An odd number, and only such, is refused as odd; an even one as one too many exactly at the
     // most entries.
-    ghost refuses = { λ h call fault. (fault ≡ Odd → call % 2 ≡ 1) × (fault ≢ Odd → call % 2 ≡ 0) × (fault ≡ Full → length h ≡ 1048575) × (fault ≡ NoMemory → length h < 1048575) };
+    ghost refuses = { λ h call fault. (fault ≡ Odd → call % 2 ≡ 1) × (fault ≢ Odd → call % 2 ≡ 0) × (fault ≡ Full → length h ≡ MOST) × (fault ≡ NoMemory → length h < MOST) };
 
-    ghost board_of = { λ h. length h + 1048576 * total_of h };
+    ghost board_of = { λ h. length h + BOARD_LENGTHS * total_of h };
 
     fn apply(&mut self, alloc: Global, caller: u32, call: Small) -> Result<u64, (Refusal, Small)> {
         let number = call.number();
@@ -125,6 +129,6 @@ impl Object for Adder {
     }
 
     fn board(&self) -> u64 {
-        self.entries.len() as u64 + 1_048_576 * self.total
+        self.entries.len() as u64 + BOARD_LENGTHS * self.total
     }
 }

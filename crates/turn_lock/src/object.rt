@@ -1,5 +1,6 @@
 // What the lock needs of the value that it guards.
-ghost use Rattle.std.specs.Prelude.{◌≡◌, ℕ, ◌%◌, ◌^◌, ◌<◌, List, [], ◌∷◌, ◌++◌, length, IfOk, IfErr};
+ghost use Rattle.std.specs.Prelude.{◌≡◌, ℕ, ◌%◌, ◌<◌, List, [], ◌∷◌, ◌++◌, length, IfOk, IfErr};
+ghost use Rattle.gcc_units.specs.declared.limits.TheConstants.{BOARD_LENGTHS};
 ghost use Rattle.turn_lock.specs.declared.entry.Entry.{Entry};
 
 use std::alloc::Global;
@@ -35,11 +36,11 @@ pub trait Object {
         ensures back { IfErr result (λ e. e.1 ≡ call) }
         ensures refused { IfErr result (λ e. refuses (history self.old) call e.0) };
 
-    /// The board: the length of the history in the low 20 bits, and above them what the object
-    /// shows of itself.
+    /// The board: the length of the history, and `BOARD_LENGTHS` times what else the object shows of
+    /// itself.
     fn board(&self) -> u64
         ensures board { result ≡ board_of (history self.now) }
         ensures legal { legal (history self.now) }
-        ensures few { length (history self.now) < 2 ^ 20 }
-        ensures length { result % 2 ^ 20 ≡ length (history self.now) };
+        ensures few { length (history self.now) < BOARD_LENGTHS }
+        ensures length { result % BOARD_LENGTHS ≡ length (history self.now) };
 }

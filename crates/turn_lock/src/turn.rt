@@ -1,7 +1,8 @@
 //! The lock.
-ghost use Rattle.std.specs.Prelude.{◌≡◌, ℕ, ◌%◌, ◌^◌, ◌<◌, ◌≤◌, [], ◌∷◌, length, IfOk, IfErr, vec_len};
+ghost use Rattle.std.specs.Prelude.{◌≡◌, ℕ, ◌%◌, ◌<◌, ◌≤◌, [], ◌∷◌, length, IfOk, IfErr, IsOk, vec_len};
 ghost use Rattle.std.specs.Vec.{vec_capacity};
 ghost use Rattle.std.specs.List.{All};
+ghost use Rattle.gcc_units.specs.declared.limits.TheConstants.{BOARD_LENGTHS};
 ghost use Rattle.turn_lock.specs.Rule.{by, BeginsWith};
 ghost use Rattle.turn_lock.specs.Seats.{Adds, HasEvery, new_seats};
 
@@ -105,8 +106,8 @@ impl<T: Object> Turn<T> {
         ensures own { by seat.new.number seat.new.seen ≡ seat.new.mine }
         ensures mine { seat.new.mine ≡ seat.old.mine }
         ensures board { result ≡ T.board_of seat.new.seen }
-        ensures few { length seat.new.seen < 2 ^ 20 }
-        ensures length { result % 2 ^ 20 ≡ length seat.new.seen }
+        ensures few { length seat.new.seen < BOARD_LENGTHS }
+        ensures length { result % BOARD_LENGTHS ≡ length seat.new.seen }
     {
         self.steps.read(&mut seat.place)
     }
@@ -140,8 +141,8 @@ impl<T: Object> Turn<T> {
     }
 
     /// The value, once every seat is handed in. Each seat has seen a beginning of its history, and
-    /// of each number it has just the entries of that seat, each once. It takes no memory, so it
-    /// never answers `NoMemory`.
+    /// of each number it has just the entries of that seat, each once. It takes no memory, and is
+    /// never refused.
     pub fn close(
         self,
         _alloc: Global,
@@ -149,11 +150,11 @@ impl<T: Object> Turn<T> {
     ) -> Result<T, (NoMemory, Turn<T>, SeatList<T>)>
         requires of { All (λ s. s.of ≡ self.of) seats.items }
         requires every { HasEvery self.seats seats.items }
+        ensures closes { IsOk result }
         ensures legal { IfOk result (λ x. T.legal (T.history x)) }
         ensures seen { IfOk result (λ x. All (λ s. BeginsWith (T.history x) s.seen) seats.items) }
         ensures mine { IfOk result (λ x. All (λ s. by s.number (T.history x) ≡ s.mine) seats.items) }
         ensures others { IfOk result (λ x. (k : ℕ) → self.seats ≤ k → by k (T.history x) ≡ []) }
-        ensures err { IfErr result (λ e. (e.1 ≡ self) × (e.2 ≡ seats)) }
     {
         let Some(last) = seats.pop() else {
             unreachable!();

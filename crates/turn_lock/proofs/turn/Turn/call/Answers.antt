@@ -1,4 +1,5 @@
-use Rattle.std.proofs.Common.{◌%◌, ◌^◌, sym, refl, ap, ◌∙◌}
+use Rattle.std.proofs.Common.{◌%◌, sym, refl, ap, ◌∙◌}
+use Rattle.gcc_units.specs.declared.limits.TheConstants.{BOARD_LENGTHS}
 use Rattle.turn_lock.specs.Rule.{Lawful}
 use Rattle.turn_lock.specs.Seats.{entry}
 use Rattle.turn_lock.proofs.Calls.{entry_seen, may_settle, seen_grows, own_grows}
@@ -9,7 +10,7 @@ settle-requires-clause-settles g c = let b = c.board-board.ensures in let e = en
   c.seat.inside.number,
   e,
   may_settle g.T.Object.history (Lawful g.T.Object.legal g.T.Object.board_of) g.T.Object.board_of _ _ c.seat.inside.place.me c.claim-value.new.place.me c.claim-value.result c.apply.new.self e
-      c.seat.invariant.1 c.claim-value.ensures.claimed refl c.in-Ok.ensures.entry (b.legal, b.few, ap (λ n. n % 2 ^ 20) (sym b.board) ∙ b.length) b.board,
+      c.seat.invariant.1 c.claim-value.ensures.claimed refl c.in-Ok.ensures.entry (b.legal, b.few, ap (λ n. n % BOARD_LENGTHS) (sym b.board) ∙ b.length) b.board,
 )
 
 pub returns-in-Ok-clause-seen : goal.returns-in-Ok-clause-seen

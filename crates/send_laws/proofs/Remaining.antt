@@ -29,9 +29,9 @@ use Rattle.send_core.specs.History.{at_of, later, now, accepted, sent, waiting}
 use Rattle.send_core.specs.Settings.{fault_of}
 use Rattle.send_core.specs.Reports.{outgoing_of, added_of, events_by, events}
 use Rattle.send_core.specs.Reply.{extension_id, enqueued, reported, configured, standing, reply_in_time, reply, IsLegal}
-use Rattle.send_laws.specs.Credits.{credits, number_of, credited_numbers, HasBytes}
+use Rattle.send_laws.specs.Credits.{credits, number_of, credited_numbers, AreByteReports}
 use Rattle.send_laws.proofs.Sending.{legal-reply}
-use Rattle.send_laws.proofs.Counting.{few-reports, packets-sent, balanced}
+use Rattle.send_laws.proofs.Counting.{few-reports, packets-sent, none-twice, balanced}
 
 -- ---- the numbers that a legal history credits
 
@@ -98,6 +98,15 @@ none-credited = refl
 -- the replies tell all credits
 pub credited-are : (h : List Entry) → IsLegal h → (account (events h)).credited ≡ credited_numbers h
 credited-are h legal = credited-rest [] h legal none-credited
+
+-- no number is told twice
+pub told-once : (h : List Entry) → IsLegal h → AreByteReports h → AllPairs (λ (m n : ℕ). m ≢ n) (credited_numbers h)
+told-once h legal bytes = subst (λ (ns : List ℕ). AllPairs (λ (m n : ℕ). m ≢ n) ns) (credited-are h legal) (none-twice h bytes)
+
+-- each packet is told as credited, is outstanding or expired
+pub told-balanced : (h : List Entry) → IsLegal h → AreByteReports h
+    → length (sent h) ≡ length (credited_numbers h) + outstanding (events h) + expired (events h)
+told-balanced h legal bytes = omega (arith, balanced h bytes, ap (length {A = ℕ}) (credited-are h legal))
 
 -- ---- counts
 
@@ -237,7 +246,7 @@ pub record AreCounts (h : List Entry) (total named kept : ℕ) : Type 0 where
   pub balance : total ≡ named + outstanding (events h) + expired (events h)
 
 pub counts-are : (h : List Entry) (total first named kept : ℕ) → IsLegal h → total ≡ length (sent h) → first ≡ total - KEPT_PACKETS
-    → named ≡ length (credited_numbers h) → kept ≡ count_by (nat_le first) (credited_numbers h) → All HasBytes h → AreCounts h total named kept
+    → named ≡ length (credited_numbers h) → kept ≡ count_by (nat_le first) (credited_numbers h) → AreByteReports h → AreCounts h total named kept
 counts-are h total first named kept legal total_is first_is named_is kept_is bytes =
     let numbers : (account (events h)).credited ≡ credited_numbers h = credited-are h legal in
     let sent_is : length (packets (events h)) ≡ total = packets-sent h ∙ sym total_is in

@@ -47,3 +47,7 @@ BringsBytes (Configure at change) = Unit {0}
 
 abbrev pub HasBytes : Entry → Type 0
 HasBytes e = BringsBytes e.call
+
+-- each report of the history is a list of bytes
+abbrev pub AreByteReports : List Entry → Type 0
+AreByteReports history = All HasBytes history

@@ -1,14 +1,14 @@
 //! That the bytes of a journal are bytes: what their type says is known where they are read.
 
 ghost use Rattle.std.specs.Prelude.{All};
-ghost use Rattle.send_laws.specs.Credits.{IsByte, BringsBytes, HasBytes};
+ghost use Rattle.send_laws.specs.Credits.{IsByte, BringsBytes, AreByteReports};
 
 use crate::reading::entry_at;
 use send_core::{Call, Journal};
 
 /// Law of a journal: the reports that it holds are lists of bytes.
 pub fn entries_have_bytes(journal: &Journal)
-    ensures { All HasBytes journal.now.items }
+    ensures { AreByteReports journal.now.items }
 {
     for k in 0..journal.len() {
         call_brings_bytes(&entry_at(journal, k).call);

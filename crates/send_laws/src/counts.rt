@@ -18,7 +18,7 @@ use send_core::{Journal, Reply, Sender};
 #[derive(Clone, Copy, PartialEq, Eq, Debug)]
 pub struct PacketCounts {
     pub sent: u64,
-    /// Those that a report named received in time.
+    /// Those that the replies to reports list as credited.
     pub credited: u64,
     /// Those that a report may still credit.
     pub outstanding: u64,
@@ -29,7 +29,8 @@ pub struct PacketCounts {
 /// What became of the packets that a sender sent: each was credited, is outstanding or expired.
 pub fn balance(sender: &Sender) -> PacketCounts
     ensures sent { result.sent ≡ length (sent sender.now) }
-    ensures credited { result.credited ≡ length (account (events sender.now)).credited }
+    ensures credited { result.credited ≡ length (credited_numbers sender.now) }
+    ensures judged { result.credited ≡ length (account (events sender.now)).credited }
     ensures outstanding { result.outstanding ≡ outstanding (events sender.now) }
     ensures expired { result.expired ≡ expired (events sender.now) }
     ensures balance { result.sent ≡ result.credited + result.outstanding + result.expired }
@@ -82,7 +83,8 @@ fn records_in(reply: &Reply) -> u32
 fn credits_of(journal: &Journal, count: u64) -> Credits
     requires count { count ≡ length (sent journal.now.items) }
     requires legal { IsLegal journal.now.items }
-    ensures all { result.all ≡ length (account (events journal.now.items)).credited }
+    ensures all { result.all ≡ length (credited_numbers journal.now.items) }
+    ensures judged { result.all ≡ length (account (events journal.now.items)).credited }
     ensures kept { outstanding (events journal.now.items) + result.kept ≡ min count KEPT_PACKETS }
     ensures balance { count ≡ result.all + outstanding (events journal.now.items) + expired (events journal.now.items) }
 {

@@ -1,7 +1,7 @@
 //! Laws of every legal history of a sender, whatever calls made it. Each is the contract of a
 //! function that does nothing.
 
-ghost use Rattle.std.specs.Prelude.{◌≡◌, ◌≢◌, ℕ, ◌+◌, ◌*◌, ◌≤◌, ◌↔◌, Some, None, List, [], ◌∷◌, ◌++◌, length, map, slice_index, All, AllPairs, Contains};
+ghost use Rattle.std.specs.Prelude.{◌≡◌, ◌≢◌, ℕ, ◌+◌, ◌*◌, ◌≤◌, ◌↔◌, Some, None, List, [], ◌∷◌, ◌++◌, length, map, slice_index, AllPairs, Contains};
 ghost use Rattle.gcc_units.specs.declared.limits.TheConstants.{GREATEST_MOMENT};
 ghost use Rattle.twcc_report.specs.Spelling.{Feedback};
 ghost use Rattle.sent_history.specs.Crediting.{account, outstanding};
@@ -11,7 +11,7 @@ ghost use Rattle.send_core.specs.History.{at_of, tickets, sent, sent_by};
 ghost use Rattle.send_core.specs.Levels.{rate, window, padding_rate, level_at};
 ghost use Rattle.send_core.specs.Reply.{IsLegal};
 ghost use Rattle.send_core.specs.Reports.{events};
-ghost use Rattle.send_laws.specs.Credits.{Brings, credits, number_of, HasBytes};
+ghost use Rattle.send_laws.specs.Credits.{Brings, credits, number_of, credited_numbers, AreByteReports};
 ghost use Rattle.send_laws.specs.Fills.{IsLeastFill};
 ghost use Rattle.send_laws.specs.Order.{AreInOrder, AreFresh, AreNumbered};
 ghost use Rattle.send_laws.specs.Probes.{planned_rate, probe_sizes, probe_moments, before_last, last_of, time_over};
@@ -70,17 +70,23 @@ pub fn reports_credit_exactly()
         ↔ (IsOutstanding (account (events before)) n × IsNamedReceived (account (events before)) report n) }
 {}
 
-/// Law: over a whole history no number is credited twice. A history's reports are lists of bytes, as
-/// all that callers hand in are.
-pub fn no_number_is_credited_twice()
-    ensures { (history : List Entry) → All HasBytes history → AllPairs (λ (m n : ℕ). m ≢ n) (account (events history)).credited }
+/// Law: the numbers that the replies of a history list as credited are, in their order, those that
+/// its reports credited. So what is outstanding and what expired goes by the replies.
+pub fn replies_list_the_credits()
+    ensures { (history : List Entry) → IsLegal history → (account (events history)).credited ≡ credited_numbers history }
 {}
 
-/// Law: the packets that were sent are those that were credited, those that are outstanding and those
-/// that expired.
+/// Law: no number stands twice among those that the replies of a history list as credited, also
+/// within one reply. A history's reports are lists of bytes, as all that callers hand in are.
+pub fn no_number_is_credited_twice()
+    ensures { (history : List Entry) → IsLegal history → AreByteReports history → AllPairs (λ (m n : ℕ). m ≢ n) (credited_numbers history) }
+{}
+
+/// Law: the packets that were sent are those that the replies list as credited, those that are
+/// outstanding and those that expired.
 pub fn packets_balance()
-    ensures { (history : List Entry) → All HasBytes history
-        → length (sent history) ≡ length (account (events history)).credited + outstanding (events history) + expired (events history) }
+    ensures { (history : List Entry) → IsLegal history → AreByteReports history
+        → length (sent history) ≡ length (credited_numbers history) + outstanding (events history) + expired (events history) }
 {}
 
 /// Law: the bytes of a probe cluster before its last packet are no more than its rate comes to from

@@ -3,3 +3,4 @@ pub mod Spelling
 pub mod Reading
 pub mod Checks
 pub mod Canonical
+pub mod FewStatuses

@@ -1,11 +1,16 @@
 //! Standard input and output. What they give and take is outside of what contracts can say: these
-//! two adapters are the trusted edge of a run.
+//! two adapters are the trusted edge of a run. A read or write that a signal interrupts is made
+//! again, and is no fault.
 
 ghost use Rattle.std.specs.Prelude.{◌≡◌, None};
 
 use crate::outside::{Failed, Sink, Source};
-use std::io::{Read, Stdin, Stdout, Write};
+use std::io::{ErrorKind, Read, Stdin, Stdout, Write};
 use std::marker::Model;
+
+/// How often a call is made that a signal interrupts each time. Ours: more signals in a row are a
+/// fault, so that each read and write ends.
+const MOST_TRIES: u32 = 1_000_000;
 
 /// Standard input. It doesn't tell its bytes, and contracts see it as its count of faults.
 #[derive(Drop)]
@@ -37,13 +42,15 @@ impl Source for StdSource {
     ghost faults = { λ s. s };
 
     fn read(&mut self, buf: &mut [u8]) -> Result<usize, Failed> {
-        match self.input.read(buf) {
-            Ok(count) => Ok(count),
-            Err(_) => {
-                self.faults = self.faults.saturating_add(1);
-                Err(Failed)
+        for _ in 0..MOST_TRIES {
+            match self.input.read(buf) {
+                Ok(count) => return Ok(count),
+                Err(e) if e.kind() == ErrorKind::Interrupted => {}
+                Err(_) => break,
             }
         }
+        self.faults = self.faults.saturating_add(1);
+        Err(Failed)
     }
 }
 
@@ -78,12 +85,14 @@ impl Sink for StdSink {
     ghost faults = { λ s. s };
 
     fn write(&mut self, piece: &[u8]) -> Result<usize, Failed> {
-        match self.output.write(piece) {
-            Ok(count) if count > 0 => Ok(count),
-            _ => {
-                self.faults = self.faults.saturating_add(1);
-                Err(Failed)
+        for _ in 0..MOST_TRIES {
+            match self.output.write(piece) {
+                Ok(count) if count > 0 => return Ok(count),
+                Err(e) if e.kind() == ErrorKind::Interrupted => {}
+                _ => break,
             }
         }
+        self.faults = self.faults.saturating_add(1);
+        Err(Failed)
     }
 }

@@ -13,7 +13,7 @@ use Rattle.allocator.specs.Order.{in_order}
 share_grows : (a b : ℕ) (s : Stream) → a ≤ b → share_at a s ≤ share_at b s
 share_grows a b s h = let grows : s.weight * a ≤ s.weight * b = mul-le-mul_left s.weight h in omega arith
 
-sum_grows : (a b : ℕ) (streams : List Stream) → a ≤ b → sum_at a streams ≤ sum_at b streams
+pub sum_grows : (a b : ℕ) (streams : List Stream) → a ≤ b → sum_at a streams ≤ sum_at b streams
 sum_grows a b streams h = sum_by-le-sum_by (share_at a) (share_at b) streams (λ s. share_grows a b s h)
 
 -- where a level does not fit, those that fit are below it

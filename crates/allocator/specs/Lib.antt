@@ -2,4 +2,5 @@ pub mod Greatest
 pub mod Streams
 pub mod Order
 pub mod Shares
+pub mod Breakpoints
 pub mod Laws

@@ -4,8 +4,10 @@
 //! by [`are_sound`], [`ids_differ`] and [`StreamSet::len_after`], none of which takes memory.
 #![tactic(auto)]
 
+mod breakpoints;
 mod checks;
 pub mod laws;
+mod line;
 mod set;
 mod shares;
 mod stream;

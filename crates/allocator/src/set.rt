@@ -1,9 +1,11 @@
 //! The streams of a set, by id and in the order of allocation.
 
-ghost use Rattle.std.specs.Prelude.{◌≡◌, ◌+◌, ◌≤◌, ◌&&◌, not, IsTrue, IfOk, IfSome, OnOk, [], length, filter, insert, position, unwrap_or, All};
+ghost use Rattle.std.specs.Prelude.{◌≡◌, ◌+◌, ◌*◌, ◌≤◌, ◌&&◌, not, IsTrue, IfOk, IfSome, OnOk, [], length, filter, insert, position, unwrap_or, All};
 ghost use Rattle.allocator.specs.Streams.{are_sound, ids_differ, changed, placed, has_lesser_id, stays, IsSound, IsStreamSet};
 ghost use Rattle.allocator.specs.Order.{goes_before, in_order};
+ghost use Rattle.allocator.specs.Breakpoints.{AreBreakpoints, IsWithin};
 
+use crate::breakpoints::{Breakpoint, breakpoints_of};
 use crate::checks::has_id;
 use crate::stream::{Stream, StreamList};
 use gcc_units::{IdList, MOST_STREAMS, NoMemory};
@@ -17,6 +19,8 @@ pub struct StreamSet {
     by_id: Vec<Stream>,
     // The same streams by weight, the greatest first, and within a weight by id.
     by_weight: Vec<Stream>,
+    // Those of the streams in the order of allocation, by level.
+    points: Vec<Breakpoint>,
 }
 
 impl Model for StreamSet {
@@ -24,12 +28,13 @@ impl Model for StreamSet {
     ghost use Rattle.allocator.specs.declared.stream.Stream.{Stream};
     ghost use Rattle.allocator.specs.Streams.{IsStreamSet};
     ghost use Rattle.allocator.specs.Order.{in_order};
+    ghost use Rattle.allocator.specs.Breakpoints.{AreBreakpoints};
 
     ghost Value = { List Stream };
 
     ghost view = { λ s. s.by_id.items };
 
-    ghost invariant = { λ s. IsStreamSet s.by_id.items × (s.by_weight.items ≡ in_order s.by_id.items) };
+    ghost invariant = { λ s. IsStreamSet s.by_id.items × (s.by_weight.items ≡ in_order s.by_id.items) × AreBreakpoints (in_order s.by_id.items) s.points.items };
 }
 
 impl StreamSet {
@@ -40,6 +45,7 @@ impl StreamSet {
         StreamSet {
             by_id: Vec::new(alloc),
             by_weight: Vec::new(alloc),
+            points: Vec::new(alloc),
         }
     }
 
@@ -59,7 +65,12 @@ impl StreamSet {
     {
         let by_id = changed_list(alloc, &self.by_id, set.as_slice(), removed.as_slice())?;
         let by_weight = ordered(alloc, &by_id)?;
-        Ok(StreamSet { by_id, by_weight })
+        let points = breakpoints_of(alloc, &by_weight)?;
+        Ok(StreamSet {
+            by_id,
+            by_weight,
+            points,
+        })
     }
 
     /// How many streams there are.
@@ -93,6 +104,15 @@ impl StreamSet {
         ensures few { length result.now ≤ MOST_STREAMS }
     {
         &self.by_weight
+    }
+
+    /// The breakpoints of the streams in that order, by level.
+    pub(crate) fn breakpoints(&self) -> &[Breakpoint]
+        ensures points { AreBreakpoints (in_order self.now) result.now }
+        ensures few { length result.now ≤ 2 * MOST_STREAMS }
+        ensures within { All IsWithin result.now }
+    {
+        &self.points
     }
 }
 

@@ -3,14 +3,24 @@
 ghost use Rattle.std.specs.Prelude.{◌≡◌, ◌+◌, ◌*◌, ◌-◌, ◌≤◌, [], length, map, min, All, AllPairs};
 ghost use Rattle.allocator.specs.Streams.{id_of, IsSound};
 ghost use Rattle.allocator.specs.Order.{in_order};
+ghost use Rattle.allocator.specs.Breakpoints.{are_served, is_marked, AreOfServed, IsWithin};
 ghost use Rattle.allocator.specs.Shares.{enforced_minimum, enforced_minima, served, share_at, sum_at, extra, spread, level_of, given_at, rate_of, shares, share_id, HasLesserShareId};
 
+use crate::breakpoints::Breakpoint;
+use crate::line::Line;
 use crate::set::StreamSet;
 use crate::stream::Stream;
 use arrayvec::ArrayVec;
 use gcc_units::{GREATEST_RATE, MOST_STREAMS, Rate, Share, ShareList};
 
 const MOST_SERVED: usize = MOST_STREAMS as usize;
+
+// The streams that are served, in order, and of all in order which these are.
+#[derive(Drop)]
+struct Served {
+    streams: ArrayVec<Stream, MOST_SERVED>,
+    marks: ArrayVec<bool, MOST_SERVED>,
+}
 
 // A level, and what is left of the total there.
 #[derive(Clone, Copy)]
@@ -37,35 +47,41 @@ pub fn allocate(total: Rate, streams: &StreamSet, out: &mut ShareList)
     ensures rising { AllPairs HasLesserShareId out.new.items }
 {
     let served = served_of(total, streams.in_order());
-    let standing = standing_of(total, &served);
+    let standing = standing_of(total, &served, streams.breakpoints());
     let by_id = streams.by_id();
     for stream in by_id {
         out.put(Share {
             id: stream.id,
-            rate: rate_of(&served, stream.id, standing),
+            rate: rate_of(&served.streams, stream.id, standing),
         });
     }
 }
 
-// The streams that are served, in order.
-fn served_of(total: Rate, ordered: &[Stream]) -> ArrayVec<Stream, MOST_SERVED>
+// Which streams are served, all enforced ones first.
+fn served_of(total: Rate, ordered: &[Stream]) -> Served
     requires sound { All IsSound ordered.now }
     requires few { length ordered.now ≤ MOST_STREAMS }
-    ensures served { result.items ≡ served total ordered.now }
-    ensures sound { All IsSound result.items }
-    ensures few { length result.items ≤ MOST_STREAMS }
+    ensures streams { result.streams.items ≡ served total ordered.now }
+    ensures marks { result.marks.items ≡ are_served total ordered.now }
+    ensures sound { All IsSound result.streams.items }
+    ensures few { length result.streams.items ≤ MOST_STREAMS }
 {
-    let mut served = ArrayVec::new();
+    let mut streams = ArrayVec::new();
+    let mut marks = ArrayVec::new();
     let mut minima = enforced_minima(ordered);
     for stream in ordered {
         if stream.enforced {
-            served.push(*stream);
+            streams.push(*stream);
+            marks.push(true);
         } else if minima + stream.min <= total {
             minima += stream.min;
-            served.push(*stream);
+            streams.push(*stream);
+            marks.push(true);
+        } else {
+            marks.push(false);
         }
     }
-    served
+    Served { streams, marks }
 }
 
 // The sum of the minima of the enforced streams.
@@ -113,41 +129,68 @@ fn sum_at(streams: &[Stream], level: u64) -> Rate
     sum
 }
 
-// The greatest level at which the shares fit the total, found by halving the range.
-fn level_of(total: Rate, streams: &[Stream]) -> Option<u64>
-    requires sound { All IsSound streams.now }
-    requires few { length streams.now ≤ MOST_STREAMS }
-    ensures { result ≡ level_of total streams.now }
+// The greatest level at which the shares fit the total, found by one walk over the breakpoints of the
+// served streams: up to the next breakpoint the sum of the shares is a line.
+fn level_of(total: Rate, served: &[Stream], marks: &[bool], points: &[Breakpoint]) -> Option<u64>
+    requires sound { All IsSound served.now }
+    requires few { length served.now ≤ MOST_STREAMS }
+    requires points { AreOfServed total served.now marks.now points.now }
+    requires few_points { length points.now ≤ 2 * MOST_STREAMS }
+    requires within { All IsWithin points.now }
+    ensures { result ≡ level_of total served.now }
 {
-    if total < sum_at(streams, 0) {
+    let mut line = start_of(served);
+    if total < line.constant {
         return None;
     }
-    let mut low = 0;
-    let mut high = GREATEST_RATE;
-    while low < high {
-        let middle = low + (high - low + 1) / 2;
-        if sum_at(streams, middle) <= total {
-            low = middle;
-        } else {
-            high = middle - 1;
+    for point in points {
+        if is_marked(marks, point) {
+            if point.level > line.at && total < line.sum_at(point.level) {
+                return Some(line.level_within(total, point.level - 1));
+            }
+            line.pass(point);
         }
     }
-    Some(low)
+    Some(line.level_within(total, GREATEST_RATE))
+}
+
+// Before the first breakpoint each stream has its minimum.
+fn start_of(served: &[Stream]) -> Line
+    requires sound { All IsSound served.now }
+    requires few { length served.now ≤ MOST_STREAMS }
+    ensures { result ≡ record { at = 0; rise = 0; fall = 0; constant = sum_at 0 served.now } }
+{
+    Line {
+        at: 0,
+        rise: 0,
+        fall: 0,
+        constant: sum_at(served, 0),
+    }
+}
+
+// Whether a breakpoint is of a stream that is served.
+fn is_marked(marks: &[bool], point: &Breakpoint) -> bool
+    ensures { result ≡ is_marked marks.now point.now }
+{
+    marks.get(point.place).copied().unwrap_or(false)
 }
 
 // The level of the served streams and what is left there. Where there is none, the minima are what they
 // get at level 0 with nothing left.
-fn standing_of(total: Rate, served: &[Stream]) -> Standing
-    requires sound { All IsSound served.now }
-    requires few { length served.now ≤ MOST_STREAMS }
-    ensures spread { spread result.level result.left served.now ≡ given_at (level_of total served.now) total served.now }
+fn standing_of(total: Rate, served: &Served, points: &[Breakpoint]) -> Standing
+    requires sound { All IsSound served.now.streams.items }
+    requires few { length served.now.streams.items ≤ MOST_STREAMS }
+    requires points { AreOfServed total served.now.streams.items served.now.marks.items points.now }
+    requires few_points { length points.now ≤ 2 * MOST_STREAMS }
+    requires within { All IsWithin points.now }
+    ensures spread { spread result.level result.left served.now.streams.items ≡ given_at (level_of total served.now.streams.items) total served.now.streams.items }
     ensures level { result.level ≤ GREATEST_RATE }
 {
-    match level_of(total, served) {
+    match level_of(total, &served.streams, &served.marks, points) {
         None => Standing { level: 0, left: 0 },
         Some(level) => Standing {
             level,
-            left: total - sum_at(served, level),
+            left: total - sum_at(&served.streams, level),
         },
     }
 }

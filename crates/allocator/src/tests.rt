@@ -18,7 +18,7 @@ const TWO: &[Row] = &[
     Row(2, 50_000, 1_000_000, 1, false),
 ];
 
-const CASES: [Case; 7] = [
+const CASES: [Case; 10] = [
     Case(TWO, 300_001, &[(1, 200_001), (2, 100_000)]),
     // a minimum that does not fit is not served
     Case(TWO, 120_000, &[(1, 120_000), (2, 0)]),
@@ -50,6 +50,14 @@ const CASES: [Case; 7] = [
     // no more than the maximum
     Case(&[Row(1, 0, 100, 1, false)], GREATEST_RATE, &[(1, 100)]),
     Case(&[], 1_000, &[]),
+    // breakpoints at the same level
+    Case(
+        &[Row(1, 33, 40, 3, false), Row(2, 30, 31, 1_000, false)],
+        69,
+        &[(1, 38), (2, 31)],
+    ),
+    Case(&[Row(1, 18, 23, 999, true)], 18, &[(1, 18)]),
+    Case(&[Row(1, 0, 100, 1, false)], u64::MAX, &[(1, 100)]),
 ];
 
 fn stream_of(row: &Row) -> Stream {

@@ -1,4 +1,4 @@
-use Rattle.std.proofs.Common.{◌≡◌, map, ap, ◌∙◌}
+use Rattle.std.proofs.Common.{map, ap, ◌∙◌}
 use Rattle.std.proofs.lemmas.List.{take_all}
 use Rattle.gcc_units.specs.declared.shared_types.Share.{Share}
 use Rattle.allocator.specs.declared.stream.Stream.{Stream}
@@ -9,13 +9,12 @@ use Rattle.allocator.proofs.shares.allocate.Goals as goal
 
 pub returns-clause-shares : goal.returns-clause-shares
 returns-clause-shares c =
-    let share : Stream → Share = share_in (spread c.standing_of-standing.result.level c.standing_of-standing.result.left c.served_of-served.result.items) in
-    let lent : c.deref.result.now ≡ c.served_of-served.result.items = c.deref.ensures.0 in
+    let share : Stream → Share = share_in (spread c.standing_of-standing.result.level c.standing_of-standing.result.left c.served_of-served.result.streams.items) in
     c.loop-stream.invariant.items
     ∙ ap (map share) (take_all c.loop-stream.stream-index c.by_id-by_id.result.now c.loop-stream-test.false ∙ c.by_id-by_id.ensures.streams)
-    ∙ shares_is c.args.total c.args.streams.now c.in_order.result.now c.served_of-served.result.items
-    c.standing_of-standing.result.level c.standing_of-standing.result.left c.in_order.ensures.streams c.served_of-served.ensures.served
-    (rw lent at c.standing_of-standing.ensures.spread)
+    ∙ shares_is c.args.total c.args.streams.now c.in_order.result.now c.served_of-served.result.streams.items
+    c.standing_of-standing.result.level c.standing_of-standing.result.left c.in_order.ensures.streams c.served_of-served.ensures.streams
+    c.standing_of-standing.ensures.spread
 
 pub returns-clause-ids : goal.returns-clause-ids
 returns-clause-ids c = rw (returns-clause-shares c) (ids-shares c.args.total c.args.streams.now)

@@ -142,9 +142,6 @@ has_number-ids : (set : List Stream) (id : ℕ) → has_number (map id_of set) i
 has_number-ids [] id = refl
 has_number-ids (s ∷ ss) id = ap (λ b. (s.id == id) || b) (has_number-ids ss id)
 
-pub stands_again_is : (later : List Stream) (removed : List ℕ) (id : ℕ) → has_number (map id_of later ++ removed) id ≡ (has_id later id || has_number removed id)
-stands_again_is later removed id = has_number-append (map id_of later) removed id ∙ ap (λ b. b || has_number removed id) (has_number-ids later id)
-
 -- of lists that differ together, the first differs
 all_differ-left : (xs ys : List ℕ) → all_differ (xs ++ ys) ≡ true → all_differ xs ≡ true
 all_differ-left [] ys h = refl

@@ -1,7 +1,7 @@
 //! Streams and their shares of a target rate.
 //!
 //! The rules of the set and of the allocation are this project's own. A change of the set is checked
-//! by [`are_sound`], [`ids_differ`] and [`StreamSet::len_after`], none of which takes memory.
+//! by [`are_sound`], [`ids_differ`] and [`StreamSet::len_after`]; of these `ids_differ` takes memory.
 #![tactic(auto)]
 
 mod breakpoints;

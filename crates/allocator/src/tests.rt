@@ -102,7 +102,7 @@ fn changed(
     if !are_sound(&set) {
         return Ok(None);
     }
-    if !ids_differ(&set, &removed) {
+    if !ids_differ(alloc, &set, &removed)? {
         return Ok(None);
     }
     if streams.len_after(&set, &removed) > u64::from(MOST_STREAMS) {

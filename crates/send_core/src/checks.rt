@@ -1,6 +1,6 @@
 //! The checks of a change.
 
-ghost use Rattle.std.specs.Prelude.{◌≡◌, ◌≤◌, ◌+◌, ◌&&◌, nat_le, nat_lt, length};
+ghost use Rattle.std.specs.Prelude.{◌≡◌, ◌≤◌, ◌+◌, ◌&&◌, nat_le, nat_lt, IfOk, length};
 ghost use Rattle.send_core.specs.Settings.{is_rate, passes, has_rates, has_bounds, has_pacing, has_extension, plans, fault_of};
 
 use crate::call::Change;
@@ -8,8 +8,9 @@ use crate::settings::{
     GREATEST_EXTENSION, GREATEST_PERCENT, LEAST_EXTENSION, LEAST_PERCENT, LEAST_WINDOW, Settings,
 };
 use allocator::{StreamSet, are_sound, ids_differ};
-use gcc_units::{GREATEST_RATE, LEAST_RATE, MOST_CLUSTERS, MOST_STREAMS};
+use gcc_units::{GREATEST_RATE, LEAST_RATE, MOST_CLUSTERS, MOST_STREAMS, NoMemory};
 use pace_budget::GREATEST_WINDOW;
+use std::alloc::Global;
 
 // Whether what is there, if it is there, is a rate.
 fn is_rate(rate: Option<u64>) -> bool
@@ -109,40 +110,41 @@ pub fn has_any(accepted: u32, sent: u64) -> bool
     accepted > 0 || sent > 0
 }
 
-/// The first check that a change fails, if it fails one.
+/// The first check that a change fails, if it fails one. The check of the ids sorts a copy of them.
 pub fn fault_of(
+    alloc: Global,
     fixed: bool,
     settings: &Settings,
     streams: &StreamSet,
     waiting: u32,
     started: bool,
     change: &Change,
-) -> Option<u32>
-    ensures { result ≡ fault_of (record { fixed = fixed; settings = settings.now; streams = streams.now; waiting = waiting; started = started }) change.now }
+) -> Result<Option<u32>, NoMemory>
+    ensures { IfOk result (λ fault. fault ≡ fault_of (record { fixed = fixed; settings = settings.now; streams = streams.now; waiting = waiting; started = started }) change.now) }
 {
     if !has_rates(change) {
-        return Some(1);
+        return Ok(Some(1));
     }
     if !has_bounds(settings, change) {
-        return Some(2);
+        return Ok(Some(2));
     }
     if !has_pacing(change) {
-        return Some(3);
+        return Ok(Some(3));
     }
     if !has_extension(fixed, settings, change) {
-        return Some(4);
+        return Ok(Some(4));
     }
     if !are_sound(&change.streams) {
-        return Some(5);
+        return Ok(Some(5));
     }
-    if !ids_differ(&change.streams, &change.removed) {
-        return Some(6);
+    if !ids_differ(alloc, &change.streams, &change.removed)? {
+        return Ok(Some(6));
     }
     if streams.len_after(&change.streams, &change.removed) > u64::from(MOST_STREAMS) {
-        return Some(7);
+        return Ok(Some(7));
     }
     if u64::from(waiting) + u64::from(count_plans(started, change)) > u64::from(MOST_CLUSTERS) {
-        return Some(8);
+        return Ok(Some(8));
     }
-    None
+    Ok(None)
 }

@@ -320,7 +320,8 @@ impl Parts {
         if at > GREATEST_MOMENT {
             return Ok((self.refuse_late(), rooms));
         }
-        if let Some(check) = self.fault_of(change) {
+        let fault = self.fault_of(alloc, change)?;
+        if let Some(check) = fault {
             self.move_to(at);
             return Ok((self.refuse(Cause::Config(check)), rooms));
         }
@@ -334,20 +335,22 @@ impl Parts {
     }
 
     // The first check that a change fails.
-    fn fault_of(&self, change: &Change) -> Option<u32>
+    fn fault_of(&self, alloc: Global, change: &Change) -> Result<Option<u32>, NoMemory>
         requires { StandsForShort self.now }
-        ensures { (history : List Entry) → StandsFor self.now history → result ≡ fault_of (standing history) change.now }
+        ensures { IfOk result (λ fault. (history : List Entry) → StandsFor self.now history → fault ≡ fault_of (standing history) change.now) }
     {
         let fixed = has_any(self.accepted, self.history.sent());
         let waiting = self.clusters.waiting();
-        fault_of(
+        let fault = fault_of(
+            alloc,
             fixed,
             &self.settings,
             &self.streams,
             waiting,
             self.started,
             change,
-        )
+        )?;
+        Ok(fault)
     }
 
     // What follows of a change that passed the checks.

@@ -23,7 +23,7 @@ returns-then-at-gt-GREATEST_MOMENT-clause-steps c =
 pub returns-in-Some-clause-answer : goal.returns-in-Some-clause-answer
 returns-in-Some-clause-answer c = λ h s.
     let early : c.args.at ≤ GREATEST_MOMENT = omega arith in
-    refused-answer h c.args.self.now c.move_to.new.self c.args.at c.args.change.now c.fault_of.result c.in-Some.check c.refuse.result s early c.move_to.ensures (c.fault_of.ensures h s) c.in-Some.is c.refuse.ensures.reply
+    refused-answer h c.args.self.now c.move_to.new.self c.args.at c.args.change.now c.in_ok-fault.fault c.in-Some.check c.refuse.result s early c.move_to.ensures (c.in_ok-fault.ensures h s) c.in-Some.is c.refuse.ensures.reply
 
 pub returns-in-Some-clause-steps : goal.returns-in-Some-clause-steps
 returns-in-Some-clause-steps c =
@@ -32,26 +32,26 @@ returns-in-Some-clause-steps c =
     early c.refuse.ensures.reply c.move_to.ensures c.refuse.ensures.parts
 
 pub changed-requires-clause-sound : goal.changed-requires-clause-sound
-changed-requires-clause-sound c = (has-passed (standing c.requires.0) c.args.change.now (sym (c.fault_of.ensures c.requires.0 c.requires.1) ∙ c.in_default.is)).sound
+changed-requires-clause-sound c = (has-passed (standing c.requires.0) c.args.change.now (sym (c.in_ok-fault.ensures c.requires.0 c.requires.1) ∙ c.in_default.is)).sound
 
 pub changed-requires-clause-differ : goal.changed-requires-clause-differ
-changed-requires-clause-differ c = (has-passed (standing c.requires.0) c.args.change.now (sym (c.fault_of.ensures c.requires.0 c.requires.1) ∙ c.in_default.is)).differ
+changed-requires-clause-differ c = (has-passed (standing c.requires.0) c.args.change.now (sym (c.in_ok-fault.ensures c.requires.0 c.requires.1) ∙ c.in_default.is)).differ
 
 pub changed-requires-clause-few : goal.changed-requires-clause-few
 changed-requires-clause-few c =
-    let p : HasPassed (standing c.requires.0) c.args.change.now = has-passed (standing c.requires.0) c.args.change.now (sym (c.fault_of.ensures c.requires.0 c.requires.1) ∙ c.in_default.is) in
+    let p : HasPassed (standing c.requires.0) c.args.change.now = has-passed (standing c.requires.0) c.args.change.now (sym (c.in_ok-fault.ensures c.requires.0 c.requires.1) ∙ c.in_default.is) in
     let room : nat_le (length (changed c.args.self.now.streams c.args.change.now.streams.items c.args.change.now.removed.items)) MOST_STREAMS ≡ true =
     subst (λ ss. nat_le (length (changed ss c.args.change.now.streams.items c.args.change.now.removed.items)) MOST_STREAMS ≡ true) (sym c.requires.1.streams_are) p.room in
     grind (arith, nat_tests, room)
 
 pub configured-requires-clause-set : goal.configured-requires-clause-set
 configured-requires-clause-set c =
-    let p : HasPassed (standing c.requires.0) c.args.change.now = has-passed (standing c.requires.0) c.args.change.now (sym (c.fault_of.ensures c.requires.0 c.requires.1) ∙ c.in_default.is) in
+    let p : HasPassed (standing c.requires.0) c.args.change.now = has-passed (standing c.requires.0) c.args.change.now (sym (c.in_ok-fault.ensures c.requires.0 c.requires.1) ∙ c.in_default.is) in
     subst (λ t. AreSettings (settings_after t c.args.change.now)) (sym (ap (λ (y : Parts). y.settings) c.move_to-2.ensures ∙ c.requires.1.set)) (settings-pass (standing c.requires.0) c.args.change.now p c.requires.1.laws.set)
 
 pub configured-requires-clause-plans : goal.configured-requires-clause-plans
 configured-requires-clause-plans c =
-    let p : HasPassed (standing c.requires.0) c.args.change.now = has-passed (standing c.requires.0) c.args.change.now (sym (c.fault_of.ensures c.requires.0 c.requires.1) ∙ c.in_default.is) in
+    let p : HasPassed (standing c.requires.0) c.args.change.now = has-passed (standing c.requires.0) c.args.change.now (sym (c.in_ok-fault.ensures c.requires.0 c.requires.1) ∙ c.in_default.is) in
     let counted : (standing c.requires.0).waiting ≡ count_by waits c.reserve.new.self.items =
     ap (λ cs. count_by waits cs) (sym c.requires.1.clusters.are ∙ sym c.reserve.ensures.items) in
     let can : CanPlan c.reserve.new.self (plans (standing c.requires.0).started c.args.change.now) =
@@ -62,8 +62,8 @@ configured-requires-clause-plans c =
 pub returns-clause-answer : goal.returns-clause-answer
 returns-clause-answer c = λ h s.
     let early : c.args.at ≤ GREATEST_MOMENT = omega arith in
-    configured-answer h c.args.self.now c.move_to-2.new.self c.configured.new.self c.args.at c.args.change.now c.fault_of.result c.in_ok-streams.streams c.reserve.new.self c.configured.result s early
-    c.move_to-2.ensures (c.fault_of.ensures h s) c.in_default.is c.in_ok-streams.ensures c.configured.ensures.configures
+    configured-answer h c.args.self.now c.move_to-2.new.self c.configured.new.self c.args.at c.args.change.now c.in_ok-fault.fault c.in_ok-streams.streams c.reserve.new.self c.configured.result s early
+    c.move_to-2.ensures (c.in_ok-fault.ensures h s) c.in_default.is c.in_ok-streams.ensures c.configured.ensures.configures
 
 pub returns-clause-steps : goal.returns-clause-steps
 returns-clause-steps c =

@@ -147,10 +147,7 @@ pub fn judge(
     let mut arrival = start;
     for status in statuses {
         arrival += delta_of(*status);
-        tell(
-            &mut judged,
-            verdict_at(slots, sent, low, *status, arrival),
-        );
+        tell(&mut judged, verdict_at(slots, sent, low, *status, arrival));
         low = low.wrapping_add(1);
     }
     judged.received.trim();

@@ -207,7 +207,7 @@ fn number_wrap(rt: HostRuntime) -> Result<(), Fail> {
 #[test]
 fn many_adds(rt: HostRuntime) -> Result<(), Fail> {
     let mut history = History::new(rt.alloc())?;
-    for _number in 0..8_000_000 {
+    for _number in 0..8_000_000_u64 {
         history.add(packet(0));
     }
     assert_eq!(rt; history.sent(), 8_000_000);

@@ -8,6 +8,6 @@ abbrev pub invariant-loop-status : goal.invariant-loop-status
 invariant-loop-status l = record {
   same_length : length l.slots ≡ length l.initial.slots;
   to_come : (k : ℕ) (d : Slot) → k < length l.slots
-    → all_marks l.sent l.low (drop l.status-index l.statuses) (l.sent - length l.slots + k) (slice_index_or l.slots k d)
-    ≡ all_marks l.sent l.base l.statuses (l.sent - length l.slots + k) (slice_index_or l.initial.slots k d);
+      → all_marks l.sent l.low (drop l.status-index l.statuses) (l.sent - length l.slots + k) (slice_index_or l.slots k d)
+      ≡ all_marks l.sent l.base l.statuses (l.sent - length l.slots + k) (slice_index_or l.initial.slots k d);
 }

@@ -4,5 +4,5 @@ use Rattle.sent_history.specs.Kept.{StandsFor}
 use Rattle.sent_history.proofs.tests.many_adds.Given as goal
 
 abbrev pub invariant-loop-number : goal.invariant-loop-number
-invariant-loop-number l =
-    (events : List Event) × StandsFor l.history events × (length (packets events) ≡ l.number-counter) × (length (reports events) ≡ 0) × (last_sent_at events ≤ 1000)
+invariant-loop-number g l =
+    (events : List Event) × StandsFor l.history events × (length (packets events) ≡ l._number) × (length (reports events) ≡ 0) × (last_sent_at events ≤ 1000)

@@ -1,13 +1,10 @@
-use Rattle.std.proofs.Common.{◌≡◌, ℕ, pos, ◌+◌, ◌-◌, ◌<◌, ◌*ℤ◌, List, length, refl, ap, sym, ◌∙◌, subst, arith, to_z, of_z, w32, w64}
+use Rattle.std.proofs.Common.{◌≡◌, pos, ◌*ℤ◌, refl, ap, sym, ◌∙◌, subst, arith, to_z, of_z, w32, w64}
 use Rattle.std.specs.List.{enumerate_from}
-use Rattle.std.specs.Vec.{with_items}
 use Rattle.std.proofs.lemmas.Int.{ints}
-use Rattle.std.proofs.lemmas.List.{length-map, with_items_is}
+use Rattle.std.proofs.lemmas.List.{length-map}
 use Rattle.std.proofs.lemmas.List.FromFn.{length-enumerate_from}
 use Rattle.gcc_units.specs.Unwrapping.{unwrapped}
 use Rattle.twcc_report.specs.Spelling.{Feedback, view}
-use Rattle.sent_history.specs.declared.slot.Slot.{Slot}
-use Rattle.sent_history.specs.Judging.{all_marks}
 use Rattle.sent_history.specs.Kept.{Kept, Keeps}
 use Rattle.sent_history.specs.Events.{reported}
 use Rattle.sent_history.specs.Crediting.{account, told, judged, verdict_at}

@@ -1,6 +1,5 @@
-use Rattle.std.proofs.Common.{length, ap, sym, ◌∙◌, subst, not, List}
+use Rattle.std.proofs.Common.{length, ap, sym, ◌∙◌, subst}
 use Rattle.std.specs.List.{count_by, range_with_len}
-use Rattle.sent_history.specs.declared.slot.Slot.{Slot}
 use Rattle.sent_history.specs.Kept.{Kept, Keeps}
 use Rattle.sent_history.specs.Crediting.{account, is_outstanding}
 use Rattle.sent_history.specs.Pushes.{account_packets}

@@ -21,7 +21,7 @@ invariant_of-self c =
       omega (arith, len, c.write.ensures.capacity, c.self.invariant.0),
       omega (arith, len, c.self.invariant.1),
       subst Q (sym c.write.ensures.items)
-      (subst P (sym c.over_from-self-inside.ensures) (AreOver-sent held c.in-Some.id c.with_packet-cluster.result (first_found waits held c.in-Some.id place))),
+          (subst P (sym c.over_from-self-inside.ensures) (AreOver-sent held c.in-Some.id c.with_packet-cluster.result (first_found waits held c.in-Some.id place))),
       c.write.ensures.known,
     )
 

@@ -1,4 +1,4 @@
-use Rattle.std.proofs.Common.{◌≡◌, ℕ, ◌+◌, ◌-◌, ◌≤◌, ◌<◌, Bool, true, false, refl, List, length, count_by, slice_set, get_or, sym, ap, subst, ◌∙◌, arith, length-set}
+use Rattle.std.proofs.Common.{◌≡◌, ℕ, ◌+◌, ◌-◌, Bool, true, false, refl, List, length, count_by, slice_set, get_or, sym, ap, subst, ◌∙◌, arith, length-set}
 use mir.Val.{bool_byte}
 use Rattle.std.proofs.lemmas.List.Sums.{count_by-le-length}
 use Rattle.probe_clusters.specs.declared.cluster.Cluster.{Cluster}

@@ -1,3 +1,2 @@
-mod Places
-mod Sliding
+mod Rings
 mod Windows

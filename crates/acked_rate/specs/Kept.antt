@@ -1,29 +1,17 @@
 -- What a window keeps, and the packets that it stands for.
-use Rattle.std.specs.Prelude.{◌≡◌, ◌≢◌, ℕ, ℤ, neg_ℤ, ◌-ℤ◌, ◌≤ℤ◌, ◌<ℤ◌, ◌*◌, ◌≤◌, ◌<◌, Bool, int_lt, if◌then◌else◌, Option, Some, None, List, [], map, length, sum_by, All, AllPairs}
+use Rattle.std.specs.Prelude.{◌≡◌, ℕ, ℤ, neg_ℤ, ◌-ℤ◌, ◌≤ℤ◌, ◌*◌, ◌≤◌, ◌<◌, int_lt, if◌then◌else◌, Option, Some, None, List, [], length, sum, sum_by, All}
 use Rattle.std.specs.Option.{ForSome}
-use Rattle.std.specs.Ordering.{int_eq}
+use Rattle.circular_buffer.specs.Buffer.{Buffer}
 use Rattle.gcc_units.specs.declared.limits.TheConstants.{GREATEST_ARRIVAL, GREATEST_PACKET, MOST_PACKETS}
-use Rattle.acked_rate.specs.declared.TheConstants.{WINDOW, MOST_SUMS}
+use Rattle.acked_rate.specs.declared.TheConstants.{WINDOW}
 use Rattle.acked_rate.specs.declared.sums.Span.{Span}
-use Rattle.acked_rate.specs.declared.sums.Sum.{Sum}
 use Rattle.acked_rate.specs.Received.{Add, span_of, size_above}
+use Rattle.acked_rate.specs.Ring.{Sum, IsFull}
 
 -- the span of all arrivals, and a sum for each arrival in the window
 pub record Kept : Type 0 where
   pub span : Option Span
   pub sums : List Sum
-
-abbrev pub arrivals : List Sum → List ℤ
-arrivals sums = map (λ (s : Sum). s.arrival) sums
-
-abbrev pub bytes_of : Sum → ℕ
-bytes_of s = s.bytes
-
-abbrev pub is_after : ℤ → Sum → Bool
-is_after limit s = int_lt limit s.arrival
-
-abbrev pub is_at : ℤ → Sum → Bool
-is_at arrival s = int_eq s.arrival arrival
 
 -- the bytes of a sum that count
 abbrev pub held : ℤ → Sum → ℕ
@@ -34,33 +22,27 @@ sum_above limit sums = sum_by (held limit) sums
 
 -- ---- what holds of all that is kept
 
--- in the window that ends with the newest arrival
-pub record IsInside (newest arrival : ℤ) : Type 0 where
-  pub after : (newest -ℤ WINDOW) <ℤ arrival
-  pub until : arrival ≤ℤ newest
-
-abbrev pub IsApartFrom : ℤ → List ℤ → Type 0
-IsApartFrom arrival times = All (λ (a : ℤ). a ≢ arrival) times
-
-abbrev pub AreApart : List ℤ → Type 0
-AreApart times = AllPairs (λ (a b : ℤ). a ≢ b) times
-
 pub record IsSpan (s : Span) : Type 0 where
   pub low : neg_ℤ GREATEST_ARRIVAL ≤ℤ s.oldest
   pub order : s.oldest ≤ℤ s.newest
   pub high : s.newest ≤ℤ GREATEST_ARRIVAL
 
--- the arrivals of the sums, where all arrivals have this span
-abbrev pub AreInside : Option Span → List ℤ → Type 0
-AreInside None times = times ≡ []
-AreInside (Some s) times = All (IsInside s.newest) times
+-- before anything arrived all sums are 0
+abbrev pub IsFilled : Option Span → List ℕ → Type 0
+IsFilled None ring = sum ring ≡ 0
+IsFilled (Some s) ring = Unit {0}
 
-pub record IsKept (capacity : ℕ) (now : Kept) : Type 0 where
-  pub room : MOST_SUMS ≤ capacity
-  pub span : ForSome now.span IsSpan
-  pub inside : AreInside now.span (arrivals now.sums)
-  pub apart : AreApart (arrivals now.sums)
-  pub few : sum_by bytes_of now.sums ≤ MOST_PACKETS * GREATEST_PACKET
+-- the newest arrival of a span is not after this one
+abbrev pub IsUntil : Option Span → ℤ → Type 0
+IsUntil None newest = Unit {0}
+IsUntil (Some s) newest = s.newest ≤ℤ newest
+
+pub record IsKept (known : Option Span) (ring : Buffer ℕ) (all : ℕ) : Type 0 where
+  pub full : IsFull ring
+  pub span : ForSome known IsSpan
+  pub filled : IsFilled known ring.items
+  pub total : all ≡ sum ring.items
+  pub few : sum ring.items ≤ MOST_PACKETS * GREATEST_PACKET
 
 -- ---- what it stands for
 

@@ -1,2 +1,3 @@
 pub mod Received
+pub mod Ring
 pub mod Kept

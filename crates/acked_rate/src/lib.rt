@@ -9,13 +9,14 @@ ghost use Rattle.std.specs.Prelude.{◌≡◌, ◌≤◌, [], ◌∷◌, ◌++�
 ghost use Rattle.acked_rate.specs.Received.{Add, acked};
 ghost use Rattle.acked_rate.specs.Kept.{IsWithin, StandsFor, TakesAdd};
 
+use circular_buffer::HeapCircularBuffer;
 use gcc_units::{GREATEST_RATE, NoMemory, Rate};
 use std::alloc::Global;
 use std::marker::Model;
 
 mod sums;
 
-use sums::{Span, Sum, take_in, total, widened};
+use sums::{Span, advance, ring_of_nothing, steps_to, take_in, widened};
 
 /// How far back the window goes from the newest arrival, in quarter-milliseconds: 500 ms
 /// (draft-ietf-rmcat-gcc-02, section 5.5, `T`).
@@ -25,26 +26,27 @@ pub const WINDOW: i64 = 2_000;
 /// `WINDOW`).
 pub const RATE_OF_BYTE: u64 = 16;
 
-/// The most sums that a window keeps: one for each arrival in it.
+/// How many sums a window keeps: one for each quarter-millisecond of it.
 pub const MOST_SUMS: u32 = 2_000;
 
-/// What is kept of all packets that arrived: the oldest and the newest arrival, and for each arrival in the
-/// window the sizes of what arrived then.
+/// What is kept of all packets that arrived: the oldest and the newest arrival, for each quarter-millisecond
+/// of the window the bytes of what arrived then, and all of these bytes.
 #[derive(Drop)]
 pub struct Window {
     span: Option<Span>,
-    sums: Vec<Sum>,
+    sums: HeapCircularBuffer<u64>,
+    total: u64,
 }
 
 impl Model for Window {
-    ghost use Rattle.std.specs.Vec.{vec_capacity};
+    ghost use Rattle.acked_rate.specs.Ring.{sums_of};
     ghost use Rattle.acked_rate.specs.Kept.{Kept, IsKept};
 
     ghost Value = { Kept };
 
-    ghost view = { λ w. record { span = w.span; sums = w.sums.items } };
+    ghost view = { λ w. record { span = w.span; sums = sums_of w.span w.sums.items } };
 
-    ghost invariant = { λ w. IsKept (vec_capacity w.sums) (record { span = w.span; sums = w.sums.items }) };
+    ghost invariant = { λ w. IsKept w.span w.sums w.total };
 }
 
 impl Window {
@@ -55,7 +57,8 @@ impl Window {
     {
         Ok(Window {
             span: None,
-            sums: Vec::with_capacity(alloc, MOST_SUMS as usize)?,
+            sums: ring_of_nothing(alloc)?,
+            total: 0,
         })
     }
 
@@ -66,7 +69,8 @@ impl Window {
         ensures { (adds : List Add) → StandsFor self.old adds → StandsFor self.new (adds ++ record { arrival = arrival; size = size } ∷ []) }
     {
         let span = widened(self.span, arrival);
-        take_in(&mut self.sums, span.newest, arrival, size);
+        self.total -= advance(&mut self.sums, steps_to(self.span, span.newest));
+        self.total += take_in(&mut self.sums, span.newest, arrival, size);
         self.span = Some(span);
     }
 
@@ -80,7 +84,7 @@ impl Window {
         if span.newest - span.oldest < WINDOW {
             return None;
         }
-        Some((RATE_OF_BYTE * total(&self.sums)).min(GREATEST_RATE))
+        Some((RATE_OF_BYTE * self.total).min(GREATEST_RATE))
     }
 }
 

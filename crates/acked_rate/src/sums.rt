@@ -1,24 +1,20 @@
 //! The sums of the window, and the span of all arrivals.
 
-ghost use Rattle.std.specs.Prelude.{◌≡◌, ℤ, neg_ℤ, ◌≤ℤ◌, ◌-ℤ◌, ◌≤◌, ◌<◌, ◌+◌, ◌^◌, All, Some, None, filter, position, sum_by, length, vec_len, vec_capacity};
+ghost use Rattle.std.specs.Prelude.{◌≡◌, ℤ, neg_ℤ, ◌≤ℤ◌, ◌-ℤ◌, ◌≤◌, ◌<◌, ◌+◌, ◌^◌, [], ◌∷◌, ◌++◌, IfOk, drop, get_or, set, sum};
 ghost use Rattle.acked_rate.specs.Received.{widened, weight};
-ghost use Rattle.acked_rate.specs.Kept.{AreApart, IsApartFrom, IsInside, arrivals, bytes_of, is_after, is_at, sum_above};
+ghost use Rattle.acked_rate.specs.Kept.{sum_above};
+ghost use Rattle.acked_rate.specs.Ring.{IsFull, first_in, moved, steps_to, timed};
 
 use crate::{MOST_SUMS, WINDOW};
-use gcc_units::GREATEST_ARRIVAL;
+use circular_buffer::HeapCircularBuffer;
+use gcc_units::{GREATEST_ARRIVAL, NoMemory};
+use std::alloc::Global;
 
 /// The oldest and the newest of some arrivals.
 #[derive(Clone, Copy)]
 pub struct Span {
     pub oldest: i64,
     pub newest: i64,
-}
-
-/// The bytes of what arrived at one time.
-#[derive(Clone, Copy)]
-pub struct Sum {
-    pub arrival: i64,
-    pub bytes: u64,
 }
 
 /// The span with one more arrival.
@@ -37,87 +33,83 @@ pub fn widened(span: Option<Span>, arrival: i64) -> Span
     }
 }
 
-/// All bytes of the sums.
-pub fn total(sums: &[Sum]) -> u64
-    requires { sum_by bytes_of sums.now < 2 ^ 60 }
-    ensures { result ≡ sum_by bytes_of sums.now }
+/// How far the window moves on, to end with this arrival.
+pub fn steps_to(span: Option<Span>, newest: i64) -> u64
+    ensures { result ≡ steps_to span newest }
 {
-    sums.iter().map(|sum| sum.bytes).sum()
+    match span {
+        None => 0,
+        Some(before) => newest.abs_diff(before.newest),
+    }
 }
 
-/// Leaves out what is no longer in the window that ends with the newest arrival, and adds a packet where it
-/// is in there.
-pub fn take_in(sums: &mut Vec<Sum>, newest: i64, arrival: i64, size: u32)
+/// A ring of sums that are 0.
+pub fn ring_of_nothing(alloc: Global) -> Result<HeapCircularBuffer<u64>, NoMemory>
+    ensures { IfOk result (λ ring. IsFull ring × (sum ring.items ≡ 0)) }
+{
+    let mut ring = HeapCircularBuffer::with_capacity(alloc, MOST_SUMS as usize)?;
+    for _i in 0..MOST_SUMS {
+        ring.push_back(0);
+    }
+    Ok(ring)
+}
+
+/// Moves on by one: the oldest sum goes, and a sum of 0 comes. It answers the bytes that went.
+fn step(ring: &mut HeapCircularBuffer<u64>) -> u64
+    requires full { IsFull ring.old }
+    ensures full { IsFull ring.new }
+    ensures items { ring.new.items ≡ drop 1 ring.old.items ++ 0 ∷ [] }
+    ensures gone { result + sum ring.new.items ≡ sum ring.old.items }
+{
+    ring.push_back(0).unwrap_or(0)
+}
+
+/// Moves on by so many quarter-milliseconds, and answers the bytes that went.
+pub fn advance(ring: &mut HeapCircularBuffer<u64>, steps: u64) -> u64
+    requires full { IsFull ring.old }
+    requires few { sum ring.old.items < 2 ^ 50 }
+    ensures full { IsFull ring.new }
+    ensures items { ring.new.items ≡ moved steps ring.old.items }
+    ensures gone { result + sum ring.new.items ≡ sum ring.old.items }
+{
+    let mut gone = 0;
+    for _i in 0..steps.min(u64::from(MOST_SUMS)) {
+        gone += step(ring);
+    }
+    gone
+}
+
+/// Adds a packet to the sum of its arrival, where that is in the window that ends with the newest arrival.
+/// It answers the bytes that it added.
+pub fn take_in(ring: &mut HeapCircularBuffer<u64>, newest: i64, arrival: i64, size: u32) -> u64
     requires low { neg_ℤ GREATEST_ARRIVAL ≤ℤ newest }
     requires newest { arrival ≤ℤ newest }
-    requires room { MOST_SUMS ≤ vec_capacity sums.old }
-    requires apart { AreApart (arrivals sums.old.items) }
-    requires until { All (λ (a : ℤ). a ≤ℤ newest) (arrivals sums.old.items) }
-    requires few { sum_by bytes_of sums.old.items < 2 ^ 50 }
-    ensures room { vec_capacity sums.new ≡ vec_capacity sums.old }
-    ensures apart { AreApart (arrivals sums.new.items) }
-    ensures inside { All (IsInside newest) (arrivals sums.new.items) }
-    ensures above { (limit : ℤ) → (newest -ℤ WINDOW) ≤ℤ limit → sum_above limit sums.new.items ≡ sum_above limit sums.old.items + weight limit (record { arrival = arrival; size = size }) }
+    requires full { IsFull ring.old }
+    requires few { sum ring.old.items < 2 ^ 50 }
+    ensures full { IsFull ring.new }
+    ensures added { sum ring.new.items ≡ sum ring.old.items + result }
+    ensures most { result ≤ size }
+    ensures above { (limit : ℤ) → (newest -ℤ WINDOW) ≤ℤ limit → sum_above limit (timed (first_in newest) ring.new.items)
+        ≡ sum_above limit (timed (first_in newest) ring.old.items) + weight limit (record { arrival = arrival; size = size }) }
 {
-    slide(sums, newest);
-    if newest - WINDOW < arrival {
-        add_to(sums, arrival, size);
+    let start = newest - WINDOW;
+    if arrival <= start {
+        return 0;
     }
-}
-
-/// Leaves out the sums that are not in the window that ends with the newest arrival.
-fn slide(sums: &mut Vec<Sum>, newest: i64)
-    requires low { neg_ℤ GREATEST_ARRIVAL ≤ℤ newest }
-    requires until { All (λ (a : ℤ). a ≤ℤ newest) (arrivals sums.old.items) }
-    ensures room { vec_capacity sums.new ≡ vec_capacity sums.old }
-    ensures apart { AreApart (arrivals sums.old.items) → AreApart (arrivals sums.new.items) }
-    ensures inside { All (IsInside newest) (arrivals sums.new.items) }
-    ensures above { (limit : ℤ) → (newest -ℤ WINDOW) ≤ℤ limit → sum_above limit sums.new.items ≡ sum_above limit sums.old.items }
-    ensures few { sum_by bytes_of sums.new.items ≤ sum_by bytes_of sums.old.items }
-{
-    drop_old(sums, newest - WINDOW);
-}
-
-/// Leaves out the sums that are not after the limit.
-fn drop_old(sums: &mut Vec<Sum>, limit: i64)
-    ensures items { sums.new.items ≡ filter (is_after limit) sums.old.items }
-    ensures room { vec_capacity sums.new ≡ vec_capacity sums.old }
-{
-    sums.retain(|sum| limit < sum.arrival);
-}
-
-/// The place of the sum of an arrival.
-fn place_of(sums: &[Sum], arrival: i64) -> Option<usize>
-    ensures { result ≡ position (is_at arrival) sums.now }
-{
-    sums.iter().position(|sum| sum.arrival == arrival)
-}
-
-/// Adds bytes to the sum of their arrival, which is put at the end where there is none yet.
-fn add_to(sums: &mut Vec<Sum>, arrival: i64, size: u32)
-    requires room { IsApartFrom arrival (arrivals sums.old.items) → vec_len sums.old < vec_capacity sums.old }
-    requires few { sum_by bytes_of sums.old.items < 2 ^ 50 }
-    ensures room { vec_capacity sums.new ≡ vec_capacity sums.old }
-    ensures apart { AreApart (arrivals sums.old.items) → AreApart (arrivals sums.new.items) }
-    ensures inside { (newest : ℤ) → IsInside newest arrival → All (IsInside newest) (arrivals sums.old.items) → All (IsInside newest) (arrivals sums.new.items) }
-    ensures above { (limit : ℤ) → sum_above limit sums.new.items ≡ sum_above limit sums.old.items + weight limit (record { arrival = arrival; size = size }) }
-{
-    match place_of(sums, arrival) {
-        Some(k) => add_at(sums, k, size),
-        None => sums.push_reserved(Sum {
-            arrival,
-            bytes: u64::from(size),
-        }),
-    }
+    let place = arrival - start - 1;
+    add_at(ring, place as usize, size);
+    u64::from(size)
 }
 
 /// Adds bytes to the sum at a place.
-fn add_at(sums: &mut [Sum], k: usize, size: u32)
-    requires place { k < length sums.old }
-    requires few { sum_by bytes_of sums.old < 2 ^ 50 }
-    ensures arrivals { arrivals sums.new ≡ arrivals sums.old }
-    ensures above { (limit arrival : ℤ) → position (is_at arrival) sums.old ≡ Some k
-        → sum_above limit sums.new ≡ sum_above limit sums.old + weight limit (record { arrival = arrival; size = size }) }
+fn add_at(ring: &mut HeapCircularBuffer<u64>, place: usize, size: u32)
+    requires full { IsFull ring.old }
+    requires place { place < MOST_SUMS }
+    requires few { sum ring.old.items < 2 ^ 50 }
+    ensures full { IsFull ring.new }
+    ensures items { ring.new.items ≡ set ring.old.items place (get_or ring.old.items place 0 + size) }
 {
-    sums[k].bytes += u64::from(size);
+    if let Some(sum) = ring.get_mut(place) {
+        *sum += u64::from(size);
+    }
 }

@@ -9,7 +9,6 @@
 #![tactic(auto)]
 
 ghost use Rattle.std.specs.Prelude.{◌≡◌, ◌≤◌, ◌+◌, ℕ, ◌++◌, List, All, IfOk, length, map, min};
-ghost use Rattle.std.specs.Option.{ForSome};
 ghost use Rattle.gcc_units.specs.Rates.{IsRate, IsBounds};
 ghost use Rattle.probe_clusters.specs.Deeds as deeds;
 ghost use Rattle.estimator.specs.Signals.{IsSentBy};
@@ -146,7 +145,6 @@ impl Estimator {
 
     /// Puts both estimates to `start` where one is given, and then into the bounds. It answers the estimate.
     pub fn set(&mut self, start: Option<Rate>, bounds: Bounds) -> Estimate
-        requires start { ForSome start IsRate }
         requires bounds { IsBounds bounds }
         ensures stands { (e : Est) → StandsFor self.old e → StandsFor self.new (set_est e start bounds) }
         ensures answer { (e : Est) → StandsFor self.old e → result ≡ estimate (set_est e start bounds) }

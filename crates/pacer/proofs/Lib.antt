@@ -2,3 +2,4 @@ mod Draining
 mod Taking
 mod Carrying
 mod PaceLoop
+mod Room

@@ -1,6 +1,6 @@
 //! The pacer.
 
-ghost use Rattle.std.specs.Prelude.{◌≡◌, pos, neg_ℤ, ◌+◌, ◌*◌, ◌≤◌, ◌≤ℤ◌, ◌<◌, ◌^◌, ◌++◌, [], List, length, All, IfOk, IsOk, OnOk, OnErr, IfErr};
+ghost use Rattle.std.specs.Prelude.{◌≡◌, ℕ, pos, neg_ℤ, ◌+◌, ◌*◌, ◌≤◌, ◌≤ℤ◌, ◌<◌, ◌^◌, ◌++◌, [], List, length, All, IfOk, IsOk, OnOk, OnErr, IfErr};
 ghost use Rattle.pace_budget.specs.Level.{full};
 ghost use Rattle.pace_queues.specs.Waiting.{HasIndexBelow};
 ghost use Rattle.probe_clusters.specs.Deeds.{Deed, StandsFor};
@@ -132,6 +132,18 @@ impl Pacer {
             floor: floor_of(self.pacing),
         };
         run(&mut self.course, clusters, first, terms, out);
+    }
+
+    /// At most so many packets are sent by a pace at the moment that it stands at: those that wait,
+    /// where no cluster is due and no padding may be sent, and else `MOST_SENDS`.
+    pub fn most_sends(&self, clusters: &Clusters) -> u32
+        ensures covers { (first : ℕ) → length (paced MOST_SENDS (terms self.now) (standing self.now clusters.now.items first)) ≤ result }
+        ensures most { result ≤ MOST_SENDS }
+    {
+        if self.course.padding.is_open() || clusters.due(self.moment).is_some() {
+            return MOST_SENDS;
+        }
+        MOST_SENDS.min(self.course.queues.len())
     }
 
     /// Takes over these settings, and forms the rate in force anew from the pacing rate and what waits.

@@ -1,19 +1,15 @@
 -- The loop of a pace: what was sent so far, and what is still to be sent, are the whole.
-use Rattle.std.proofs.Common.{◌≡◌, ℕ, suc, zero, ◌+◌, ◌-◌, ◌<◌, ◌≤◌, Bool, cond, None, Some, List, [], ◌∷◌, ◌++◌, length, count_by, All, refl, sym, ◌∙◌, ap, subst, arith, append_assoc, length-append}
+use Rattle.std.proofs.Common.{◌≡◌, ℕ, suc, zero, ◌+◌, ◌-◌, ◌<◌, ◌≤◌, None, Some, List, [], ◌∷◌, ◌++◌, length, refl, sym, ◌∙◌, ap, subst, arith, append_assoc, length-append}
 use Rattle.std.proofs.lemmas.List.{append-nil}
 use Rattle.std.proofs.lemmas.List.Sums.{fold_push}
-use Rattle.std.proofs.lemmas.List.Elements.{All-nil, All-cons, All-append}
-use Rattle.gcc_units.specs.declared.limits.TheConstants.{MOST_SENDS, MOST_PACKETS, GREATEST_PACKET}
+use Rattle.gcc_units.specs.declared.limits.TheConstants.{MOST_SENDS, MOST_PACKETS}
 use Rattle.gcc_units.specs.Walk.{flat_map-push}
 use Rattle.probe_clusters.specs.Deeds.{Deed, StandsFor, ReachedBy}
 use Rattle.pacer.specs.declared.sent.Sent.{Sent}
-use Rattle.pacer.specs.declared.sent.Kind.{Kind}
-use Rattle.pacer.specs.declared.sent.Kind.TheVariants as kind
 use Rattle.pacer.specs.declared.course.Terms.{Terms}
-use Rattle.pacer.specs.Course.{IsSmall, HasRoom, probe_as, probe_by, probes_of}
+use Rattle.pacer.specs.Course.{HasRoom, probe_by, probes_of}
 use Rattle.pacer.specs.Afters.{after_all-is}
 use Rattle.pacer.specs.Pace.{Standing, unsent, rule, after, after_all, then_on, paced, paced-zero, paced-suc}
-use Rattle.pacer.specs.Ruled.{rule-is, size-small}
 
 -- ---- the loop
 

@@ -1,5 +1,5 @@
 -- How many packets a pace can send.
-use Rattle.std.proofs.Common.{◌≡◌, ℕ, ℤ, pos, suc, zero, ◌+◌, ◌<ℤ◌, ◌≤ℤ◌, ◌≤◌, ◌-ℤ◌, ◌==◌, ◌↔◌, IsTrue, min, ◌&&◌, Bool, true, false, not, Option, None, Some, IfSome, List, [], ◌∷◌, length, Contains, cond, int_lt, refl, ap, arith}
+use Rattle.std.proofs.Common.{◌≡◌, ℕ, ℤ, pos, suc, zero, ◌+◌, ◌<ℤ◌, ◌≤ℤ◌, ◌≤◌, ◌-ℤ◌, ◌==◌, ◌↔◌, IsTrue, min, Bool, true, false, not, Option, None, Some, IfSome, List, [], ◌∷◌, length, Contains, cond, int_lt, refl, ap, arith}
 use Rattle.std.specs.Int.{int_min, int_max}
 use Rattle.std.proofs.lemmas.Int.{ints}
 use Rattle.std.proofs.lemmas.Bool.Decides.{nat_tests}
@@ -8,7 +8,6 @@ use Rattle.pace_budget.specs.Level.{bits}
 use Rattle.pace_queues.specs.declared.ticket.Ticket.{Ticket}
 use Rattle.pace_queues.specs.Waiting.{IsLeast, next, without}
 use Rattle.pace_queues.specs.Laws.{next-is_least}
-use Rattle.probe_clusters.specs.declared.cluster.Cluster.{Cluster}
 use Rattle.probe_clusters.specs.Clusters.{due}
 use Rattle.pacer.specs.declared.sent.Sent.{Sent}
 use Rattle.pacer.specs.declared.sent.Kind.{Kind}

@@ -1,25 +1,22 @@
 -- What holds of all sends of one pace.
-use Rattle.std.proofs.Common.{◌≡◌, ℕ, ℤ, pos, suc, zero, ◌+◌, ◌<ℤ◌, ◌<◌, ◌≤◌, Bool, true, false, not, cond, Option, None, Some, IfSome, List, [], ◌∷◌, ◌++◌, length, All, fold, slice_get, refl, sym, ◌∙◌, ap, subst, arith}
-use Rattle.std.specs.List.{flat_map}
-use Rattle.std.proofs.lemmas.Bool.Decides.{nat_tests}
+use Rattle.std.proofs.Common.{◌≡◌, ℕ, suc, zero, ◌<◌, ◌≤◌, Bool, true, false, not, cond, Option, None, Some, IfSome, List, [], ◌∷◌, ◌++◌, length, All, fold, slice_get, refl, sym, ◌∙◌, ap, subst, arith}
 use Rattle.std.proofs.lemmas.List.Elements.{All-nil, All-cons, All-filter}
 use Rattle.gcc_units.specs.declared.limits.TheConstants.{GREATEST_PACKET}
-use Rattle.pace_budget.specs.Level.{Deed, Spend}
 use Rattle.pace_budget.specs.Steps.{step}
 use Rattle.pace_budget.specs.Spans.{Opens}
 use Rattle.pace_queues.specs.declared.ticket.Ticket.{Ticket}
 use Rattle.pace_queues.specs.Waiting.{next, HasIndexBelow}
 use Rattle.pace_queues.specs.Laws.{next-is_one}
 use Rattle.probe_clusters.specs.declared.cluster.Cluster.{Cluster}
-use Rattle.probe_clusters.specs.Clusters.{due, due_at, due_as, current, sent, changed, changed_where}
+use Rattle.probe_clusters.specs.Clusters.{due, due_at, due_as, current, changed, changed_where}
 use Rattle.probe_clusters.specs.Cluster.{is_due}
 use Rattle.pacer.specs.declared.sent.Sent.{Sent}
 use Rattle.pacer.specs.declared.sent.Kind.{Kind}
 use Rattle.pacer.specs.declared.sent.Kind.TheVariants as kind
 use Rattle.pacer.specs.declared.course.Terms.{Terms}
 use Rattle.pacer.specs.Course.{IsSmall}
-use Rattle.pacer.specs.Pace.{Standing, names, IsBelow, NamesBelow, index_of, deed_by, deed_of, clusters_by, clusters_after, rule, after, then_on, paced, paced-zero, paced-suc}
-use Rattle.pacer.specs.Ruled.{size_in, IsAllowed, IsRuledBy, rule-is, size-small}
+use Rattle.pacer.specs.Pace.{Standing, names, IsBelow, NamesBelow, index_of, deed_by, clusters_by, rule, after, then_on, paced, paced-zero, paced-suc}
+use Rattle.pacer.specs.Ruled.{IsAllowed, rule-is, size-small}
 use Rattle.pacer.specs.Afters.{spending}
 
 -- one induction for all: what holds of a send at each standing that may come holds of every send

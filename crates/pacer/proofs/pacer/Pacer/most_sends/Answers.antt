@@ -1,11 +1,9 @@
-use Rattle.std.proofs.Common.{◌≡◌, ℕ, ◌≤◌, ◌∙◌, None, length, min, sym, arith}
+use Rattle.std.proofs.Common.{◌∙◌, sym}
 use Rattle.gcc_units.specs.declared.limits.TheConstants.{MOST_SENDS}
-use Rattle.probe_clusters.specs.Clusters.{due}
-use Rattle.pacer.specs.Pace.{paced}
 use Rattle.pacer.specs.Sends.{paced-few}
 use Rattle.pacer.specs.State.{terms, standing}
 use Rattle.pacer.proofs.Taking.{none-of}
-use Rattle.pacer.proofs.Room.{IsClosed, closed-low, closed-few}
+use Rattle.pacer.proofs.Room.{closed-low, closed-few}
 use Rattle.pacer.proofs.pacer.Pacer.most_sends.Goals as goal
 
 pub returns-then-is_open-clause-covers : goal.returns-then-is_open-clause-covers

@@ -1,5 +1,5 @@
 -- The journal and the history with packets, and a call more in both.
-use Rattle.std.proofs.Common.{◌≡◌, ℕ, suc, zero, ◌↔◌, List, [], ◌∷◌, ◌++◌, length, take, Some, slice_get, Result, Ok, Err, IfOk, IfErr, refl, sym, ◌∙◌, ap, subst, append_assoc, append-nil}
+use Rattle.std.proofs.Common.{◌≡◌, ℕ, suc, zero, ◌↔◌, ◌≤◌, List, [], ◌∷◌, ◌++◌, length, take, Some, slice_get, Result, Ok, Err, IfOk, IfErr, refl, sym, ◌∙◌, ap, subst, arith, append_assoc, append-nil}
 use Rattle.std.proofs.lemmas.List.{map-append}
 use Rattle.gcc_units.specs.Walk.{each_by, each_by-push, each_by-length}
 use Rattle.gcc_units.specs.declared.limits.TheConstants.{MOST_ENTRIES}
@@ -42,14 +42,20 @@ answers_grow h new caller call (Ok a) packets grows =
     ∙ (each_by-push answered [] h (entry caller call a.reply)
     ∙ ap (λ w. answers_of h ++ record { caller = caller; call = call; reply = record { reply = a.reply; wires = w } } ∷ []) (sym packets))
 
-refused_at : (h : List Entry) (call : Call) (fault : ApplyFault) → (fault ≡ JournalFull) ↔ (length h ≡ MOST_ENTRIES) → Refuses (answers_of h) call fault
-refused_at h call JournalFull full = length-answers h ∙ full.0 refl
-refused_at h call NoMemory full = tt
+other_fault : NoMemory ≡ JournalFull → ⊥
+other_fault is = cc
 
-pub refused : (h : List Entry) (call : Call) (result : Result Answer (ApplyFault × Call))
+refused_at : (h : List Entry) (call : Call) (fault : ApplyFault) → length h ≤ MOST_ENTRIES → (fault ≡ JournalFull) ↔ (length h ≡ MOST_ENTRIES)
+    → Refuses (answers_of h) call fault
+refused_at h call JournalFull short full = length-answers h ∙ full.0 refl
+refused_at h call NoMemory short full =
+    let open_still : (length h ≡ MOST_ENTRIES) → ⊥ = λ is. other_fault (full.1 is) in
+    omega (arith, length-answers h, short, open_still)
+
+pub refused : (h : List Entry) (call : Call) (result : Result Answer (ApplyFault × Call)) → length h ≤ MOST_ENTRIES
     → IfErr result (λ e. (e.0 ≡ JournalFull) ↔ (length h ≡ MOST_ENTRIES)) → IfErr result (λ e. Refuses (answers_of h) call e.0)
-refused h call (Ok a) full = tt
-refused h call (Err e) full = refused_at h call e.0 full
+refused h call (Ok a) short full = tt
+refused h call (Err e) short full = refused_at h call e.0 short full
 
 -- ---- what the last entry says
 

@@ -1,5 +1,5 @@
 -- The history of a shared sender: the entries of the journal, each reply with the packets that left with it.
-use Rattle.std.proofs.Common.{◌≡◌, ℕ, List, [], ◌∷◌, ◌++◌, map, length, take, slice_get, Some, refl, ap}
+use Rattle.std.proofs.Common.{◌≡◌, ◌<◌, ℕ, List, [], ◌∷◌, ◌++◌, map, length, take, slice_get, Some, refl, ap}
 use Rattle.gcc_units.specs.Walk.{each_by}
 use Rattle.gcc_units.specs.declared.limits.TheConstants.{MOST_ENTRIES}
 use Rattle.rtp_wire.specs.Wires.{bare_wires}
@@ -49,10 +49,10 @@ abbrev pub HasWires : List Answered → Type 0
 HasWires history =
     (n : ℕ) (e : Answered) → slice_get history n ≡ Some e → e.reply.wires ≡ bare_wires (wires (journal_of (take n history)) e.reply.reply)
 
--- at which histories a call may be refused with a fault
+-- at which histories a call may be refused with a fault: as one too many exactly where there are the most entries
 abbrev pub Refuses : List Answered → Call → ApplyFault → Type 0
 Refuses history call JournalFull = length history ≡ MOST_ENTRIES
-Refuses history call NoMemory = Unit {0}
+Refuses history call NoMemory = length history < MOST_ENTRIES
 
 -- a call of a seat was answered: after a history that begins with what the seat had seen comes its entry, one more of
 -- the seat's own, and that history determines the reply and the packets

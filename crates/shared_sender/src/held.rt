@@ -64,6 +64,7 @@ impl Object for Held {
         caller: u32,
         call: Call,
     ) -> Result<Answer, (ApplyFault, Call)> {
+        let _legal = self.sender.journal();
         self.sender.apply(alloc, caller, call)
     }
 

@@ -1,5 +1,5 @@
 //! The shared sender.
-ghost use Rattle.std.specs.Prelude.{◌≡◌, ◌≤◌, ℕ, [], length, IfOk, IfErr};
+ghost use Rattle.std.specs.Prelude.{◌≡◌, ◌≤◌, ℕ, [], length, IfOk, IfErr, IsOk};
 ghost use Rattle.std.specs.List.{All};
 ghost use Rattle.turn_lock.specs.Rule.{by, BeginsWith};
 ghost use Rattle.turn_lock.specs.Seats.{HasEvery, new_seats};
@@ -71,7 +71,7 @@ impl Shared {
     /// Waits for its turn and makes a call. Its answer is the one that the entries before it
     /// determine, and what the seat has seen afterwards ends with this call. On `Err` the call
     /// comes back, and the seat has seen the history at which it was refused: `JournalFull` comes
-    /// where that has `MOST_ENTRIES` entries, `NoMemory` where memory ran out.
+    /// where that has `MOST_ENTRIES` entries, `NoMemory` where it has fewer and memory ran out.
     pub fn call<R: Wait>(
         &self,
         rt: &R,
@@ -250,8 +250,8 @@ impl Shared {
     }
 
     /// The sender, once every seat is handed in. Each seat has seen a beginning of its history, and
-    /// of each number it has just the entries of that seat, each once. It takes no memory, so it
-    /// never answers `NoMemory`.
+    /// of each number it has just the entries of that seat, each once. It takes no memory, and is
+    /// never refused.
     pub fn close(
         self,
         alloc: Global,
@@ -259,11 +259,11 @@ impl Shared {
     ) -> Result<Sender, (NoMemory, Shared, SenderSeats)>
         requires of { All (λ s. s.of ≡ self.of) seats.items }
         requires every { HasEvery self.seats seats.items }
+        ensures closes { IsOk result }
         ensures legal { IfOk result (λ s. IsLegal s) }
         ensures seen { IfOk result (λ s. All (λ seat. BeginsWith (answers_of s) seat.seen) seats.items) }
         ensures mine { IfOk result (λ s. All (λ seat. by seat.number (answers_of s) ≡ seat.mine) seats.items) }
         ensures others { IfOk result (λ s. (k : ℕ) → self.seats ≤ k → by k (answers_of s) ≡ []) }
-        ensures err { IfErr result (λ e. (e.1 ≡ self) × (e.2 ≡ seats)) }
     {
         let Shared { turn } = self;
         match turn.close(alloc, seats) {

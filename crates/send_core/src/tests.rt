@@ -3,7 +3,8 @@
 ghost use Rattle.std.specs.Prelude.{◌<◌, ◌^◌, length};
 
 use crate::{Answer, ApplyFault, Call, Sender};
-use gcc_units::{Bytes, Class, MOST_ENTRIES};
+use gcc_units::{Bytes, Class, MOST_ENTRIES, NoMemory};
+use rtp_wire::WireList;
 use std::alloc::Global;
 use std::test::Fail;
 
@@ -19,49 +20,60 @@ const AUDIO: [u8; 20] = [
     0x90, 0x6f, 0, 1, 0, 0, 0, 0, 0, 0, 0, 0xbb, 0xbe, 0xde, 0, 1, 0x31, 0, 0, 0,
 ];
 
-// Serves a call that is served.
-fn serve(alloc: Global, sender: &mut Sender, call: Call) -> Result<Answer, Fail> {
-    match sender.apply(alloc, 0, call) {
-        Ok(answer) => Ok(answer),
-        Err((fault, _call)) => Err(fault.into()),
+fn packet(alloc: Global, bytes: &[u8]) -> Result<Bytes, NoMemory>
+    requires { length bytes.now < 2 ^ 32 }
+{
+    Ok(Bytes::from_vec(Vec::from_slice(alloc, bytes)?))
+}
+
+// Serves a call, and says nothing of it.
+fn apply(alloc: Global, sender: &mut Sender, call: Call) -> Result<Answer, (ApplyFault, Call)> {
+    sender.apply(alloc, 0, call)
+}
+
+fn served(answer: Result<Answer, (ApplyFault, Call)>) -> Result<WireList, ApplyFault> {
+    match answer {
+        Ok(answer) => Ok(answer.wires),
+        Err((fault, _call)) => Err(fault),
     }
 }
 
-fn enqueue(alloc: Global, sender: &mut Sender, class: Class, bytes: &[u8]) -> Result<(), Fail>
-    requires { length bytes.now < 2 ^ 32 }
-{
-    let wire = Bytes::from_vec(Vec::from_slice(alloc, bytes)?);
+fn enqueue(class: Class, wire: Bytes) -> Call {
     let at = 1_000;
-    serve(alloc, sender, Call::Enqueue { at, class, wire })?;
-    Ok(())
+    Call::Enqueue { at, class, wire }
+}
+
+fn pace(at: u64) -> Call {
+    Call::Pace { at }
 }
 
 #[test]
 fn packets_leave_stamped(rt: HostRuntime) -> Result<(), Fail> {
     let alloc = rt.alloc();
     let mut sender = Sender::new(alloc)?;
-    enqueue(alloc, &mut sender, Class::Video, &VIDEO)?;
-    enqueue(alloc, &mut sender, Class::Audio, &AUDIO)?;
-    let wires = serve(alloc, &mut sender, Call::Pace { at: 2_000 })?.wires;
+    let video = enqueue(Class::Video, packet(alloc, &VIDEO)?);
+    let audio = enqueue(Class::Audio, packet(alloc, &AUDIO)?);
+    served(apply(alloc, &mut sender, video))?;
+    served(apply(alloc, &mut sender, audio))?;
+    let wires = served(apply(alloc, &mut sender, pace(2_000)))?;
     assert_eq!(rt; wires.len(), 2);
     assert_eq!(rt; wires.get(0), Some(AUDIO.as_slice()));
     assert_eq!(rt; wires.get(1), Some(VIDEO_AS_ONE.as_slice()));
     Ok(())
 }
 
-// A sender whose journal holds as many entries as it may.
-fn full(alloc: Global) -> Result<Sender, Fail> {
-    let mut sender = Sender::new(alloc)?;
-    for at in 0..u64::from(MOST_ENTRIES) {
-        serve(alloc, &mut sender, Call::Pace { at })?;
+// Adds so many entries.
+fn fill(alloc: Global, sender: &mut Sender, entries: u32) -> Result<(), ApplyFault> {
+    for at in 0..u64::from(entries) {
+        served(apply(alloc, sender, pace(at)))?;
     }
-    Ok(sender)
+    Ok(())
 }
 
 // Whether the call came back, since the journal is full.
-fn came_back(alloc: Global, sender: &mut Sender, moment: u64) -> bool {
-    match sender.apply(alloc, 0, Call::Pace { at: moment }) {
-        Err((ApplyFault::JournalFull, Call::Pace { at })) => at == moment,
+fn came_back(answer: &Result<Answer, (ApplyFault, Call)>, moment: u64) -> bool {
+    match answer {
+        Err((ApplyFault::JournalFull, Call::Pace { at })) => *at == moment,
         _ => false,
     }
 }
@@ -69,8 +81,10 @@ fn came_back(alloc: Global, sender: &mut Sender, moment: u64) -> bool {
 #[test]
 fn journal_fills(rt: HostRuntime) -> Result<(), Fail> {
     let alloc = rt.alloc();
-    let mut sender = full(alloc)?;
+    let mut sender = Sender::new(alloc)?;
+    fill(alloc, &mut sender, MOST_ENTRIES)?;
     assert_eq!(rt; sender.journal().len(), MOST_ENTRIES);
-    assert!(rt; came_back(alloc, &mut sender, 7));
+    let answer = apply(alloc, &mut sender, pace(7));
+    assert!(rt; came_back(&answer, 7));
     Ok(())
 }

@@ -3,7 +3,7 @@
 ghost use Rattle.std.specs.Prelude.{◌≡◌, ℕ, ◌<◌, ◌≤◌, ◌↔◌, ◌++◌, [], length, IfOk, IsTrue};
 ghost use Rattle.std.specs.String.{string_bytes};
 ghost use Rattle.std.specs.List.{All};
-ghost use Rattle.gcc_units.specs.declared.limits.TheConstants.{MOST_ACTORS, MOST_LINES, MOST_CHECK_BYTES};
+ghost use Rattle.gcc_units.specs.declared.limits.TheConstants.{MOST_ACTORS, MOST_LINES};
 ghost use Rattle.call_trace.specs.declared.trace.Line.{Line};
 ghost use Rattle.reply_text.specs.declared.check.Verdict.TheVariants as verdict;
 ghost use Rattle.reply_text.specs.Text.{glance_lines, tail_line};
@@ -64,7 +64,6 @@ pub fn check_history(alloc: Global, trace: &Trace, text: &[u8]) -> Result<Verdic
     requires actors { trace.now.actors ≤ MOST_ACTORS }
     requires lines { length trace.now.lines.items ≤ MOST_LINES }
     requires each { All (λ line. line.actor < trace.now.actors) trace.now.lines.items }
-    requires short { length text.now ≤ MOST_CHECK_BYTES }
     // `Legal` exactly where the text is legal.
     ensures legal { IfOk result (λ v. (v ≡ verdict.Legal) ↔ IsLegalText trace.now.lines.items trace.now.actors text.now) }
     // `Differs` exactly with the place where the text differs.

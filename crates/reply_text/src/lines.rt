@@ -13,7 +13,6 @@ use gcc_units::{Credit, Judged, Moment, NoMemory, Rate, Share, ShareList, Signal
 use pacer::{Kind, Sent, SentList};
 use rtp_wire::WireFault;
 use send_core::{Cause, Entry, Rates, Reply};
-use std::alloc::Global;
 use twcc_report::ReportFault;
 
 /// What a report's reply says of the path.
@@ -25,145 +24,151 @@ struct Estimate {
     rates: Rates,
 }
 
-/// What a packet was sent as.
-fn kind_text(alloc: Global, kind: Kind) -> Result<String, NoMemory>
-    ensures { IfOk result (λ s. string_bytes s ≡ kind_text kind) }
+/// Appends what a packet was sent as.
+fn push_kind(text: &mut String, kind: Kind) -> Result<(), NoMemory>
+    ensures { OnOk result (string_bytes text.new ≡ string_bytes text.old ++ kind_text kind) }
 {
     match kind {
-        Kind::Audio => Ok(format!(in alloc; "a")?),
-        Kind::Media => Ok(format!(in alloc; "m")?),
-        Kind::Probe(id) => Ok(format!(in alloc; "x{id}")?),
-        Kind::Padding => Ok(format!(in alloc; "p")?),
+        Kind::Audio => Ok(text.push_str("a")?),
+        Kind::Media => Ok(text.push_str("m")?),
+        Kind::Probe(id) => Ok(write!(text, "x{id}")?),
+        Kind::Padding => Ok(text.push_str("p")?),
     }
 }
 
-/// Which accepted packet it is, if it is one.
-fn index_text(alloc: Global, index: Option<u32>) -> Result<String, NoMemory>
-    ensures { IfOk result (λ s. string_bytes s ≡ index_text index) }
+/// Appends which accepted packet it is, if it is one.
+fn push_index(text: &mut String, index: Option<u32>) -> Result<(), NoMemory>
+    ensures { OnOk result (string_bytes text.new ≡ string_bytes text.old ++ index_text index) }
 {
     match index {
-        None => Ok(format!(in alloc; "-")?),
-        Some(index) => Ok(format!(in alloc; "{index}")?),
+        None => Ok(text.push_str("-")?),
+        Some(index) => Ok(write!(text, "{index}")?),
     }
 }
 
-/// A sent packet, with a space before it.
-fn sent_text(alloc: Global, sent: &Sent) -> Result<String, NoMemory>
-    ensures { IfOk result (λ s. string_bytes s ≡ sent_text sent.now) }
+/// Appends a sent packet, with a space before it.
+fn push_sent(text: &mut String, sent: &Sent) -> Result<(), NoMemory>
+    ensures { OnOk result (string_bytes text.new ≡ string_bytes text.old ++ sent_text sent.now) }
 {
-    let kind = kind_text(alloc, sent.kind)?;
-    let index = index_text(alloc, sent.index)?;
     let number = sent.number;
     let size = sent.size;
-    Ok(format!(in alloc; " {number}:{kind}:{index}:{size}")?)
+    write!(text, " {number}:")?;
+    push_kind(text, sent.kind)?;
+    text.push_str(":")?;
+    push_index(text, sent.index)?;
+    Ok(write!(text, ":{size}")?)
 }
 
-/// All sent packets of a pace.
-fn sents_text(alloc: Global, records: &[Sent]) -> Result<String, NoMemory>
-    ensures { IfOk result (λ s. string_bytes s ≡ flat_map sent_text records.now) }
+/// Appends all sent packets of a pace.
+fn push_sents(text: &mut String, records: &[Sent]) -> Result<(), NoMemory>
+    ensures { OnOk result (string_bytes text.new ≡ string_bytes text.old ++ flat_map sent_text records.now) }
 {
-    let mut text = String::new(alloc);
     for record in records {
-        text.push_str(sent_text(alloc, record)?.as_str())?;
+        push_sent(text, record)?;
     }
-    Ok(text)
+    Ok(())
 }
 
-fn signal_text(alloc: Global, signal: Signal) -> Result<String, NoMemory>
-    ensures { IfOk result (λ s. string_bytes s ≡ signal_text signal) }
+fn push_signal(text: &mut String, signal: Signal) -> Result<(), NoMemory>
+    ensures { OnOk result (string_bytes text.new ≡ string_bytes text.old ++ signal_text signal) }
 {
     match signal {
-        Signal::Normal => Ok(format!(in alloc; "normal")?),
-        Signal::Over => Ok(format!(in alloc; "over")?),
-        Signal::Under => Ok(format!(in alloc; "under")?),
+        Signal::Normal => Ok(text.push_str("normal")?),
+        Signal::Over => Ok(text.push_str("over")?),
+        Signal::Under => Ok(text.push_str("under")?),
     }
 }
 
-/// A rate, if there is one.
-fn rate_text(alloc: Global, rate: Option<Rate>) -> Result<String, NoMemory>
-    ensures { IfOk result (λ s. string_bytes s ≡ rate_text rate) }
+/// Appends a rate, if there is one.
+fn push_rate(text: &mut String, rate: Option<Rate>) -> Result<(), NoMemory>
+    ensures { OnOk result (string_bytes text.new ≡ string_bytes text.old ++ rate_text rate) }
 {
     match rate {
-        None => Ok(format!(in alloc; "-")?),
-        Some(rate) => Ok(format!(in alloc; "{rate}")?),
+        None => Ok(text.push_str("-")?),
+        Some(rate) => Ok(write!(text, "{rate}")?),
     }
 }
 
-/// How the statuses of a report were judged.
-fn judged_text(alloc: Global, judged: &Judged) -> Result<String, NoMemory>
-    ensures { IfOk result (λ s. string_bytes s ≡ judged_text judged.now) }
+/// Appends how the statuses of a report were judged.
+fn push_judged(text: &mut String, judged: &Judged) -> Result<(), NoMemory>
+    ensures { OnOk result (string_bytes text.new ≡ string_bytes text.old ++ judged_text judged.now) }
 {
     let got = judged.received.len();
     let lost = judged.missing;
     let unknown = judged.unknown;
     let repeated = judged.repeated;
-    Ok(format!(in alloc; "got {got} lost {lost} unknown {unknown} repeated {repeated}")?)
+    Ok(write!(
+        text,
+        "got {got} lost {lost} unknown {unknown} repeated {repeated}"
+    )?)
 }
 
-fn rates_text(alloc: Global, rates: Rates) -> Result<String, NoMemory>
-    ensures { IfOk result (λ s. string_bytes s ≡ rates_text rates) }
+fn push_rates(text: &mut String, rates: Rates) -> Result<(), NoMemory>
+    ensures { OnOk result (string_bytes text.new ≡ string_bytes text.old ++ rates_text rates) }
 {
     let delay = rates.delay;
     let loss = rates.loss;
     let target = rates.target;
     let pacing = rates.pacing;
-    Ok(format!(in alloc; "rates {delay} {loss} {target} {pacing}")?)
+    Ok(write!(text, "rates {delay} {loss} {target} {pacing}")?)
 }
 
-fn estimate_text(alloc: Global, estimate: Estimate) -> Result<String, NoMemory>
-    ensures { IfOk result (λ s. string_bytes s ≡ estimate_text estimate.signal estimate.m estimate.acked estimate.rates) }
+fn push_estimate(text: &mut String, estimate: Estimate) -> Result<(), NoMemory>
+    ensures { OnOk result (string_bytes text.new ≡ string_bytes text.old ++ estimate_text estimate.signal estimate.m estimate.acked estimate.rates) }
 {
-    let signal = signal_text(alloc, estimate.signal)?;
     let m = estimate.m;
-    let acked = rate_text(alloc, estimate.acked)?;
-    let rates = rates_text(alloc, estimate.rates)?;
-    Ok(format!(in alloc; "signal {signal} m {m} acked {acked} {rates}")?)
+    text.push_str("signal ")?;
+    push_signal(text, estimate.signal)?;
+    write!(text, " m {m} acked ")?;
+    push_rate(text, estimate.acked)?;
+    text.push_str(" ")?;
+    push_rates(text, estimate.rates)
 }
 
-fn share_text(alloc: Global, share: &Share) -> Result<String, NoMemory>
-    ensures { IfOk result (λ s. string_bytes s ≡ share_text share.now) }
+fn push_share(text: &mut String, share: &Share) -> Result<(), NoMemory>
+    ensures { OnOk result (string_bytes text.new ≡ string_bytes text.old ++ share_text share.now) }
 {
     let id = share.id;
     let rate = share.rate;
-    Ok(format!(in alloc; "{id}:{rate}")?)
+    Ok(write!(text, "{id}:{rate}")?)
 }
 
-/// All shares, or that there is none.
-fn shares_text(alloc: Global, shares: &[Share]) -> Result<String, NoMemory>
-    ensures { IfOk result (λ s. string_bytes s ≡ shares_text shares.now) }
+/// Appends all shares, or that there is none.
+fn push_shares(text: &mut String, shares: &[Share]) -> Result<(), NoMemory>
+    ensures { OnOk result (string_bytes text.new ≡ string_bytes text.old ++ shares_text shares.now) }
 {
     let [first, others @ ..] = shares else {
-        return Ok(format!(in alloc; "-")?);
+        return Ok(text.push_str("-")?);
     };
-    let mut text = share_text(alloc, first)?;
+    push_share(text, first)?;
     for share in others {
         text.push_str(",")?;
-        text.push_str(share_text(alloc, share)?.as_str())?;
+        push_share(text, share)?;
     }
-    Ok(text)
+    Ok(())
 }
 
-fn credit_text(alloc: Global, credit: &Credit) -> Result<String, NoMemory>
-    ensures { IfOk result (λ s. string_bytes s ≡ credit_text credit.now) }
+fn push_credit(text: &mut String, credit: &Credit) -> Result<(), NoMemory>
+    ensures { OnOk result (string_bytes text.new ≡ string_bytes text.old ++ credit_text credit.now) }
 {
     let number = credit.number;
     let arrival = credit.arrival;
-    Ok(format!(in alloc; "{number}@{arrival}")?)
+    Ok(write!(text, "{number}@{arrival}")?)
 }
 
-/// All credits in their order, or that there is none.
-fn credits_text(alloc: Global, credits: &[Credit]) -> Result<String, NoMemory>
-    ensures { IfOk result (λ s. string_bytes s ≡ credits_text credits.now) }
+/// Appends all credits in their order, or that there is none.
+fn push_credits(text: &mut String, credits: &[Credit]) -> Result<(), NoMemory>
+    ensures { OnOk result (string_bytes text.new ≡ string_bytes text.old ++ credits_text credits.now) }
 {
     let [first, others @ ..] = credits else {
-        return Ok(format!(in alloc; "-")?);
+        return Ok(text.push_str("-")?);
     };
-    let mut text = credit_text(alloc, first)?;
+    push_credit(text, first)?;
     for credit in others {
         text.push_str(" ")?;
-        text.push_str(credit_text(alloc, credit)?.as_str())?;
+        push_credit(text, credit)?;
     }
-    Ok(text)
+    Ok(())
 }
 
 /// The number of the check that a packet failed.
@@ -180,82 +185,86 @@ fn report_number(report: ReportFault) -> u8
     report as u8
 }
 
-/// Why a call was refused.
-fn cause_text(alloc: Global, cause: Cause) -> Result<String, NoMemory>
-    ensures { IfOk result (λ s. string_bytes s ≡ cause_text cause) }
+/// Appends why a call was refused.
+fn push_cause(text: &mut String, cause: Cause) -> Result<(), NoMemory>
+    ensures { OnOk result (string_bytes text.new ≡ string_bytes text.old ++ cause_text cause) }
 {
     match cause {
-        Cause::MomentTooLarge => Ok(format!(in alloc; "moment")?),
+        Cause::MomentTooLarge => Ok(text.push_str("moment")?),
         Cause::Wire(fault) => {
             let number = wire_number(fault);
-            Ok(format!(in alloc; "wire {number}")?)
+            Ok(write!(text, "wire {number}")?)
         }
-        Cause::QueueFull { waiting } => Ok(format!(in alloc; "full {waiting}")?),
+        Cause::QueueFull { waiting } => Ok(write!(text, "full {waiting}")?),
         Cause::Report(fault) => {
             let number = report_number(fault);
-            Ok(format!(in alloc; "report {number}")?)
+            Ok(write!(text, "report {number}")?)
         }
-        Cause::Config(check) => Ok(format!(in alloc; "config {check}")?),
+        Cause::Config(check) => Ok(write!(text, "config {check}")?),
     }
 }
 
-fn accepted_text(alloc: Global, at: Moment, index: u32) -> Result<String, NoMemory>
-    ensures { IfOk result (λ s. string_bytes s ≡ reply_text (reply_kind.Accepted at index)) }
+fn push_accepted(text: &mut String, at: Moment, index: u32) -> Result<(), NoMemory>
+    ensures { OnOk result (string_bytes text.new ≡ string_bytes text.old ++ reply_text (reply_kind.Accepted at index)) }
 {
-    Ok(format!(in alloc; "accepted {at} {index}")?)
+    Ok(write!(text, "accepted {at} {index}")?)
 }
 
-fn paced_text(alloc: Global, at: Moment, sent: &SentList) -> Result<String, NoMemory>
-    ensures { IfOk result (λ s. string_bytes s ≡ reply_text (reply_kind.Paced at sent.now)) }
+fn push_paced(text: &mut String, at: Moment, sent: &SentList) -> Result<(), NoMemory>
+    ensures { OnOk result (string_bytes text.new ≡ string_bytes text.old ++ reply_text (reply_kind.Paced at sent.now)) }
 {
     let count = sent.len();
-    let records = sents_text(alloc, sent.as_slice())?;
-    Ok(format!(in alloc; "paced {at} {count}{records}")?)
+    write!(text, "paced {at} {count}")?;
+    push_sents(text, sent.as_slice())
 }
 
-fn credited_text(
-    alloc: Global,
+fn push_credited(
+    text: &mut String,
     at: Moment,
     judged: &Judged,
     estimate: Estimate,
     shares: &ShareList,
-) -> Result<String, NoMemory>
-    ensures { IfOk result (λ s. string_bytes s ≡ reply_text (reply_kind.Credited at judged.now estimate.signal estimate.m estimate.acked estimate.rates shares.now)) }
+) -> Result<(), NoMemory>
+    ensures { OnOk result (string_bytes text.new ≡ string_bytes text.old ++ reply_text (reply_kind.Credited at judged.now estimate.signal estimate.m estimate.acked estimate.rates shares.now)) }
 {
-    let counts = judged_text(alloc, judged)?;
-    let estimate = estimate_text(alloc, estimate)?;
-    let parts = shares_text(alloc, shares.as_slice())?;
-    let credits = credits_text(alloc, judged.received.as_slice())?;
-    Ok(format!(in alloc; "credited {at} {counts} {estimate} shares {parts} credits {credits}")?)
+    write!(text, "credited {at} ")?;
+    push_judged(text, judged)?;
+    text.push_str(" ")?;
+    push_estimate(text, estimate)?;
+    text.push_str(" shares ")?;
+    push_shares(text, shares.as_slice())?;
+    text.push_str(" credits ")?;
+    push_credits(text, judged.received.as_slice())
 }
 
-fn configured_text(
-    alloc: Global,
+fn push_configured(
+    text: &mut String,
     at: Moment,
     rates: Rates,
     shares: &ShareList,
-) -> Result<String, NoMemory>
-    ensures { IfOk result (λ s. string_bytes s ≡ reply_text (reply_kind.Configured at rates shares.now)) }
+) -> Result<(), NoMemory>
+    ensures { OnOk result (string_bytes text.new ≡ string_bytes text.old ++ reply_text (reply_kind.Configured at rates shares.now)) }
 {
-    let rates = rates_text(alloc, rates)?;
-    let parts = shares_text(alloc, shares.as_slice())?;
-    Ok(format!(in alloc; "configured {at} {rates} shares {parts}")?)
+    write!(text, "configured {at} ")?;
+    push_rates(text, rates)?;
+    text.push_str(" shares ")?;
+    push_shares(text, shares.as_slice())
 }
 
-fn refused_text(alloc: Global, at: Moment, cause: Cause) -> Result<String, NoMemory>
-    ensures { IfOk result (λ s. string_bytes s ≡ reply_text (reply_kind.Refused at cause)) }
+fn push_refused(text: &mut String, at: Moment, cause: Cause) -> Result<(), NoMemory>
+    ensures { OnOk result (string_bytes text.new ≡ string_bytes text.old ++ reply_text (reply_kind.Refused at cause)) }
 {
-    let cause = cause_text(alloc, cause)?;
-    Ok(format!(in alloc; "refused {at} {cause}")?)
+    write!(text, "refused {at} ")?;
+    push_cause(text, cause)
 }
 
-/// A reply, without its caller.
-fn reply_text(alloc: Global, reply: &Reply) -> Result<String, NoMemory>
-    ensures { IfOk result (λ s. string_bytes s ≡ reply_text reply.now) }
+/// Appends a reply, without its caller.
+fn push_reply(text: &mut String, reply: &Reply) -> Result<(), NoMemory>
+    ensures { OnOk result (string_bytes text.new ≡ string_bytes text.old ++ reply_text reply.now) }
 {
     match reply {
-        Reply::Accepted { at, index } => Ok(accepted_text(alloc, *at, *index)?),
-        Reply::Paced { at, sent } => Ok(paced_text(alloc, *at, sent)?),
+        Reply::Accepted { at, index } => push_accepted(text, *at, *index),
+        Reply::Paced { at, sent } => push_paced(text, *at, sent),
         Reply::Credited {
             at,
             judged,
@@ -271,28 +280,20 @@ fn reply_text(alloc: Global, reply: &Reply) -> Result<String, NoMemory>
                 acked: *acked,
                 rates: *rates,
             };
-            Ok(credited_text(alloc, *at, judged, estimate, shares)?)
+            push_credited(text, *at, judged, estimate, shares)
         }
-        Reply::Configured { at, rates, shares } => {
-            Ok(configured_text(alloc, *at, *rates, shares)?)
-        }
-        Reply::Refused { at, cause } => Ok(refused_text(alloc, *at, *cause)?),
+        Reply::Configured { at, rates, shares } => push_configured(text, *at, *rates, shares),
+        Reply::Refused { at, cause } => push_refused(text, *at, *cause),
     }
 }
 
-/// The line of a caller's reply, with its line feed.
-pub fn reply_line(alloc: Global, caller: u32, reply: &Reply) -> Result<String, NoMemory>
-    ensures { (call : Call) → IfOk result (λ s. string_bytes s ≡ line_of (entry caller call reply.now)) }
+/// Appends the line of a caller's reply, with its line feed.
+pub fn push_line(text: &mut String, caller: u32, reply: &Reply) -> Result<(), NoMemory>
+    ensures { (call : Call) → OnOk result (string_bytes text.new ≡ string_bytes text.old ++ line_of (entry caller call reply.now)) }
 {
-    let reply = reply_text(alloc, reply)?;
-    Ok(format!(in alloc; "{caller} {reply}\n")?)
-}
-
-/// An entry's line, with its line feed.
-pub fn entry_line(alloc: Global, entry: &Entry) -> Result<String, NoMemory>
-    ensures { IfOk result (λ s. string_bytes s ≡ line_of entry.now) }
-{
-    Ok(reply_line(alloc, entry.caller, &entry.reply)?)
+    write!(text, "{caller} ")?;
+    push_reply(text, reply)?;
+    Ok(text.push_str("\n")?)
 }
 
 /// How many packets were sent with a reply.
@@ -308,12 +309,12 @@ pub fn sends_of(reply: &Reply) -> u32
     }
 }
 
-/// The line of an actor's glance of this number, with its line feed.
-pub fn glance_line(alloc: Global, number: u64, seen: &Seen) -> Result<String, NoMemory>
-    ensures { IfOk result (λ s. string_bytes s ≡ glance_line number seen.now) }
+/// Appends the line of an actor's glance of this number, with its line feed.
+pub fn push_glance(text: &mut String, number: u64, seen: &Seen) -> Result<(), NoMemory>
+    ensures { OnOk result (string_bytes text.new ≡ string_bytes text.old ++ glance_line number seen.now) }
 {
     let actor = seen.actor;
     let calls = seen.calls;
     let target = seen.target;
-    Ok(format!(in alloc; "{actor} glance {number} {calls} {target}\n")?)
+    Ok(write!(text, "{actor} glance {number} {calls} {target}\n")?)
 }

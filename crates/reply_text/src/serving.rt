@@ -11,7 +11,7 @@ ghost use Rattle.reply_text.specs.Text.{line_of};
 ghost use Rattle.reply_text.specs.Verdict.{calls, HasGoodLine};
 ghost use Rattle.reply_text.specs.Walking.{ArePlaced, IsServed, IsWalked};
 
-use crate::lines::reply_line;
+use crate::lines::push_line;
 use call_trace::{Action, Line, copy_call, cut, number};
 use gcc_units::{MOST_ACTORS, NoMemory, Rate, Sequence};
 use send_core::{ApplyFault, Call, Sender};
@@ -93,7 +93,11 @@ fn serve(alloc: Global, sender: &mut Sender, caller: u32, call: Call) -> Result<
     ensures line { IfOk result (λ line. string_bytes line ≡ line_of (entry caller call (reply sender.old call))) }
 {
     match sender.apply(alloc, caller, call) {
-        Ok(answer) => Ok(reply_line(alloc, caller, &answer.reply)?),
+        Ok(answer) => {
+            let mut line = String::new(alloc);
+            push_line(&mut line, caller, &answer.reply)?;
+            Ok(line)
+        }
         Err((ApplyFault::NoMemory, _)) => Err(NoMemory),
         Err((ApplyFault::JournalFull, _)) => unreachable!(),
     }

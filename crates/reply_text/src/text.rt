@@ -10,7 +10,7 @@ ghost use Rattle.send_core.specs.History.{sent};
 ghost use Rattle.send_core.specs.Reply.{target};
 ghost use Rattle.reply_text.specs.Text.{line_of, glance_lines, tail_line, text};
 
-use crate::lines::{entry_line, glance_line, sends_of};
+use crate::lines::{push_glance, push_line, sends_of};
 use crate::seen::{Seen, SeenList};
 use gcc_units::{Bytes, NoMemory, Rate};
 use send_core::Journal;
@@ -18,14 +18,14 @@ use std::alloc::Global;
 use std::collections::BTreeMap;
 
 /// Appends the lines of all entries.
-fn push_entries(alloc: Global, text: &mut String, journal: &Journal) -> Result<(), NoMemory>
+fn push_entries(text: &mut String, journal: &Journal) -> Result<(), NoMemory>
     ensures { OnOk result (string_bytes text.new ≡ string_bytes text.old ++ flat_map line_of journal.now.items) }
 {
     for k in 0..journal.len() {
         let Some(entry) = journal.entry(k) else {
             unreachable!()
         };
-        text.push_str(entry_line(alloc, entry)?.as_str())?;
+        push_line(text, entry.caller, &entry.reply)?;
     }
     Ok(())
 }
@@ -65,7 +65,7 @@ fn push_glances(alloc: Global, text: &mut String, glances: &[Seen]) -> Result<()
     let mut counts: BTreeMap<u32, u64> = BTreeMap::new(alloc);
     for seen in glances {
         let number = count_glance(&mut counts, seen.actor)?;
-        text.push_str(glance_line(alloc, number, seen)?.as_str())?;
+        push_glance(text, number, seen)?;
     }
     Ok(())
 }
@@ -101,7 +101,7 @@ pub fn write_history(
     ensures { IfOk result (λ bytes. bytes ≡ bare (text journal.now.items glances.now.items)) }
 {
     let mut text = String::from_str(alloc, "gcc-history 1\n")?;
-    push_entries(alloc, &mut text, journal)?;
+    push_entries(&mut text, journal)?;
     text.push_str(ending(alloc, journal, glances.as_slice(), journal.target())?.as_str())?;
     let bytes = bytes_of(text)?;
     Ok(bytes)

@@ -14,8 +14,8 @@ loop-seen-preserved c =
     (get-there c.args.glances.now c.loop-seen.seen-index (record { actor = 0; calls = 0; target = 0 }) c.loop-seen-test.true) in
     let number : c.in_ok-number.number ≡ glances_by seen.actor before = c.in_ok-number.ensures.number ∙ c.loop-seen.invariant.1 seen.actor in
     let line : List ℕ = glance_line (glances_by seen.actor before) seen in (
-      c.in_ok-push_str.ensures.bytes
-          ∙ (ap (λ ys. string_bytes c.loop-seen.text ++ ys) (c.as_str.ensures.value ∙ (c.in_ok-glance_line.ensures ∙ ap (λ n. glance_line n seen) number))
+      c.in_ok-push_glance.ensures
+          ∙ (ap (λ n. string_bytes c.loop-seen.text ++ glance_line n seen) number
           ∙ (ap (λ xs. xs ++ line) c.loop-seen.invariant.0
           ∙ (append_assoc (string_bytes c.args.text.now) (glance_lines [] before) line
           ∙ ap (λ ys. string_bytes c.args.text.now ++ ys) (sym (ap (glance_lines []) next ∙ glance_lines-push [] before seen))))),

@@ -10,7 +10,7 @@ and the same calls and rows stand in a test of `send_laws`. Run it as
     table.py             what `replay` must print for each history, and its rows
     table.py trace N     the trace of history N, from 1 on, for `replay`
     table.py text N      what `replay` must print for it
-    table.py steps N     the calls of history N as the test has them
+    table.py calls N     the calls of history N as the test has them
     table.py rows N      the rows of history N as the test has them
 """
 import sys
@@ -543,29 +543,20 @@ def table(calls, journal):
     yield " ".join(map(str, ["balance", *journal.balance()]))
 
 
-def step(call):
+def call_line(call):
+    """A call as the test has it: of a packet its class and size, of a report its bytes, of a change its keys."""
+    fields = call[:2]
     if call[0] == "E":
-        kind = {"a": "Audio", "r": "Retransmission", "v": "Video", "f": "Fec"}[call[2]]
-        return f"    Enqueue({call[1]}, Class::{kind}, {call[3]}),"
-    if call[0] == "P":
-        return f"    Pace({call[1]}),"
+        fields = call
     if call[0] == "R":
-        fields = ", ".join(str(b) if b < 10 else hex(b) for b in report_bytes(call)[12:])
-        return f"    Report({call[1]}, {report_bytes(call)[3]}, &[{fields}]),"
-    keys = [f"{key.title().replace('_', '')}({str(value).lower()})" for key, value in call[2].items()]
-    return f"    Configure({call[1]}, &[{', '.join(keys)}]),"
+        fields = *fields, *report_bytes(call)
+    if call[0] == "C":
+        fields = *fields, *(word for key, value in call[2].items() for word in (key, int(value)))
+    return " ".join(map(str, fields))
 
 
-def steps(calls, _):
-    return map(step, calls)
-
-
-def rows(calls, journal):
-    for field, kind in ("media", "m"), ("padding", "p"):
-        yield f"    {field}: &["
-        for i, j in pairs(len(calls)):
-            yield f"        Row{(i, j, *journal.span(kind, i, j))},"
-        yield "    ],"
+def call_lines(calls, _):
+    return map(call_line, calls)
 
 
 def main(part=None, number=None):
@@ -574,7 +565,7 @@ def main(part=None, number=None):
         if part is None:
             print(f"---- history {n}", *text(calls, journal), *table(calls, journal), sep="\n")
         elif int(number) == n:
-            parts = {"trace": trace, "text": text, "steps": steps, "rows": rows}
+            parts = {"trace": trace, "text": text, "calls": call_lines, "rows": table}
             print(*parts[part](calls, journal), sep="\n")
 
 

@@ -8,3 +8,7 @@ pub mod CountedWhole
 pub mod Rates
 pub mod Outcomes
 pub mod Made
+pub mod Decimals
+pub mod InOrder
+pub mod Asked
+pub mod OwnLines

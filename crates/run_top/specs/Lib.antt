@@ -1,9 +1,12 @@
 pub mod Words
+pub mod Asking
 pub mod Ending
 pub mod Reading
 pub mod Replay
 pub mod Outcome
+pub mod Kept
 pub mod Racing
+pub mod OwnLines
 pub mod Race
 pub mod Check
 pub mod Totals

@@ -3,6 +3,7 @@
 #![tactic(auto)]
 
 mod checking;
+mod laws;
 mod making;
 mod options;
 mod racing;
@@ -17,6 +18,7 @@ mod words;
 mod workers;
 mod writing;
 
+pub use laws::{commands_are_asked_for, numbers_are_decimals};
 pub use status::Status;
 pub use top::{run, run_plain};
 pub use words::WordList;

@@ -4,9 +4,8 @@ ghost use Rattle.std.specs.Prelude.{◌≤◌};
 
 use crate::tests::{bytes_of, served, smallest_text, smallest_trace, words};
 use crate::{Status, run};
-use call_trace::{make_trace, read_trace, write_trace};
-use gcc_units::{IdList, MOST_ACTORS, MOST_CHECK_BYTES};
-use reply_text::{Verdict, check_history};
+use call_trace::{make_trace, write_trace};
+use gcc_units::{IdList, MOST_ACTORS};
 use run_io::{Gate, MemSink, MemSource, OpenGate};
 use std::alloc::Global;
 use std::process::Abort;
@@ -36,10 +35,10 @@ fn raced<R: Threads + Wait + Sync, G: Gate + Sync>(
     Ok((status, sink))
 }
 
-/// Waits until the mark is set, for so many turns; whether it was.
-fn waited(mark: &AtomicU64) -> bool {
+/// Waits until the mark is at least so many, for so many turns; whether it was.
+fn waited(mark: &AtomicU64, least: u64) -> bool {
     for _ in 0..TURNS {
-        if mark.load(Ordering::SeqCst) != 0 {
+        if mark.load(Ordering::SeqCst) >= least {
             return true;
         }
         thread::yield_now();
@@ -76,15 +75,12 @@ fn four_actors(alloc: Global) -> Result<Vec<u8>, Fail> {
     Ok(trace)
 }
 
-/// Whether the text is legal for the trace that the bytes spell.
+/// Whether a check calls the text legal for the trace that the bytes spell.
 fn is_legal(alloc: Global, bytes: &[u8], text: &[u8]) -> Result<bool, Fail> {
-    if bytes.len() > MOST_CHECK_BYTES as usize || text.len() > MOST_CHECK_BYTES as usize {
-        return Ok(false);
-    }
-    let Ok(trace) = read_trace(alloc, bytes) else {
-        return Ok(false);
-    };
-    Ok(check_history(alloc, &trace, text)? == Verdict::Legal)
+    let mut both = bytes.to_vec(alloc)?;
+    both.extend_from_slice(text)?;
+    let (status, verdict) = served(alloc, b"check", both.as_slice())?;
+    Ok(status == Status::Done && verdict.written() == b"legal\n".as_slice())
 }
 
 // The text is legal, and whatever the order of the calls, all packets have left with the last pace.
@@ -112,13 +108,7 @@ fn made_race_is_legal<R: Threads + Wait + Sync>(
     let trace = make_trace(alloc, seed, 200, actors)?;
     let bytes = write_trace(alloc, &trace)?;
     let (status, sink) = raced(rt, alloc, bytes.as_slice(), &OpenGate)?;
-    if status != Status::Done {
-        return Ok(false);
-    }
-    let mut both = bytes.as_slice().to_vec(alloc)?;
-    both.extend_from_slice(sink.written())?;
-    let (status, verdict) = served(alloc, b"check", both.as_slice())?;
-    Ok(status == Status::Done && verdict.written() == b"legal\n".as_slice())
+    Ok(status == Status::Done && is_legal(alloc, bytes.as_slice(), sink.written())?)
 }
 
 #[test]
@@ -150,7 +140,7 @@ impl Gate for Meeting {
             (&self.second_came, &self.first_came)
         };
         own.store(1, Ordering::SeqCst);
-        if !waited(other) {
+        if !waited(other, 1) {
             self.failed.store(1, Ordering::SeqCst);
         }
     }
@@ -171,6 +161,117 @@ fn two_actors_meet(rt: HostRuntime) -> Result<(), Fail> {
     assert_eq!(rt; status, Status::Done);
     assert!(rt; sink.written().ends_with(b"\nend 4 0 300000\n"));
     assert_eq!(rt; gate.failed.load(Ordering::SeqCst), 0);
+    assert_eq!(rt; gate.first_came.load(Ordering::SeqCst), 1);
+    assert_eq!(rt; gate.second_came.load(Ordering::SeqCst), 1);
+    Ok(())
+}
+
+/// A gate that holds the first line of each actor until so many actors have come to theirs.
+#[derive(Drop)]
+struct Gathering {
+    all: u64,
+    came: AtomicU64,
+    failed: AtomicU64,
+}
+
+impl Gate for Gathering {
+    fn before(&self, _actor: u32, k: u32) {
+        if k != 0 {
+            return;
+        }
+        self.came.fetch_add(1, Ordering::SeqCst);
+        if !waited(&self.came, self.all) {
+            self.failed.store(1, Ordering::SeqCst);
+        }
+    }
+
+    fn after(&self, _actor: u32, _k: u32) {}
+}
+
+/// Calls and glances of four actors.
+fn four_who_look() -> &'static [u8] {
+    b"gcc-trace 1 4
+G 0
+P 0 0
+G 0
+P 0 1
+G 1
+G 1
+P 1 0
+G 1
+P 2 0
+G 2
+P 2 1
+P 3 0
+G 3
+G 3
+end
+"
+}
+
+// All four run at the same time, and their glances are legal however their calls are merged.
+#[test]
+fn four_actors_meet(rt: HostRuntime) -> Result<(), Fail> {
+    let alloc = rt.alloc();
+    let gate = Gathering {
+        all: 4,
+        came: AtomicU64::new(0),
+        failed: AtomicU64::new(0),
+    };
+    let (status, sink) = raced(&rt, alloc, four_who_look(), &gate)?;
+    assert_eq!(rt; status, Status::Done);
+    assert_eq!(rt; gate.failed.load(Ordering::SeqCst), 0);
+    assert_eq!(rt; gate.came.load(Ordering::SeqCst), 4);
+    assert!(rt; is_legal(alloc, four_who_look(), sink.written())?);
+    Ok(())
+}
+
+/// A gate that wants the lines of each of two actors in their order, each before and after.
+#[derive(Drop)]
+struct Ordered {
+    first: AtomicU64,
+    second: AtomicU64,
+    failed: AtomicU64,
+}
+
+impl Ordered {
+    /// The calls of an actor go on with this one, counted from 0.
+    fn go_on(&self, actor: u32, call: u64) {
+        let calls = if actor == 0 {
+            &self.first
+        } else {
+            &self.second
+        };
+        if calls.fetch_add(1, Ordering::SeqCst) != call {
+            self.failed.store(1, Ordering::SeqCst);
+        }
+    }
+}
+
+impl Gate for Ordered {
+    fn before(&self, actor: u32, k: u32) {
+        self.go_on(actor, 2 * u64::from(k));
+    }
+
+    fn after(&self, actor: u32, k: u32) {
+        self.go_on(actor, 2 * u64::from(k) + 1);
+    }
+}
+
+// The gate is called before and after each line, with the count of the actor's own lines before it.
+#[test]
+fn the_gate_counts_each_actors_own_lines(rt: HostRuntime) -> Result<(), Fail> {
+    let gate = Ordered {
+        first: AtomicU64::new(0),
+        second: AtomicU64::new(0),
+        failed: AtomicU64::new(0),
+    };
+    let trace = b"gcc-trace 1 2\nP 1 0\nP 0 0\nG 0\nP 1 0\nP 0 0\nend\n";
+    let (status, _sink) = raced(&rt, rt.alloc(), trace, &gate)?;
+    assert_eq!(rt; status, Status::Done);
+    assert_eq!(rt; gate.failed.load(Ordering::SeqCst), 0);
+    assert_eq!(rt; gate.first.load(Ordering::SeqCst), 6);
+    assert_eq!(rt; gate.second.load(Ordering::SeqCst), 4);
     Ok(())
 }
 
@@ -194,7 +295,7 @@ impl First {
 
 impl Gate for First {
     fn before(&self, actor: u32, _k: u32) {
-        if actor != self.actor && !waited(&self.done) {
+        if actor != self.actor && !waited(&self.done, 1) {
             self.failed.store(1, Ordering::SeqCst);
         }
     }

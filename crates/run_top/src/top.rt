@@ -5,6 +5,7 @@ ghost use Rattle.run_io.specs.Faults.{Rose};
 ghost use Rattle.run_top.specs.Words.{command_of, plain_command_of};
 ghost use Rattle.run_top.specs.declared.words.Command.{Command};
 ghost use Rattle.run_top.specs.declared.words.Command.TheVariants as command;
+ghost use Rattle.run_top.specs.Kept.{KeepsSource};
 ghost use Rattle.run_top.specs.Outcome.{IfTold, IsReadUp, IsEnded, IsSilent, IsAnswered, NamesFault, Wrote, WroteInPart};
 
 use crate::checking::run_check;
@@ -37,9 +38,11 @@ pub fn run_plain<S: Source, K: Sink>(
     ensures usage { (result ≡ Status.Usage) ↔ (plain_command_of words.now.items ≡ None) }
     ensures unread { result ≡ Status.Usage → S.left source.new ≡ S.left source.old }
 
-    // At the end all was read, and what the command writes was written.
+    // At the end all was read, and what the command writes was written. A command that reads
+    // nothing leaves the source as it was, however it ends.
     ensures read { IsEnded result → IfSome (plain_command_of words.now.items) (λ c. IsReadUp c (S.left source.old) (S.left source.new)) }
     ensures done { IsEnded result → IfSome (plain_command_of words.now.items) (λ c. IfTold c (S.left source.old) (λ bytes. Wrote c bytes result (K.written sink.old) (K.written sink.new))) }
+    ensures kept { IfSome (plain_command_of words.now.items) (λ c. KeepsSource c source.old source.new) }
     ensures differs { (entry : ℕ) → result ≡ Status.Differs entry → plain_command_of words.now.items ≡ Some command.Check }
 
     // Each fault has its cause.
@@ -87,9 +90,11 @@ pub fn run<R: Threads + Wait + Sync, S: Source, K: Sink, G: Gate + Sync>(
     ensures usage { (result ≡ Status.Usage) ↔ (command_of words.now.items ≡ None) }
     ensures unread { result ≡ Status.Usage → S.left source.new ≡ S.left source.old }
 
-    // At the end all was read, and what the command writes was written.
+    // At the end all was read, and what the command writes was written. A command that reads
+    // nothing leaves the source as it was, however it ends.
     ensures read { IsEnded result → IfSome (command_of words.now.items) (λ c. IsReadUp c (S.left source.old) (S.left source.new)) }
     ensures done { IsEnded result → IfSome (command_of words.now.items) (λ c. IfTold c (S.left source.old) (λ bytes. Wrote c bytes result (K.written sink.old) (K.written sink.new))) }
+    ensures kept { IfSome (command_of words.now.items) (λ c. KeepsSource c source.old source.new) }
     ensures differs { (entry : ℕ) → result ≡ Status.Differs entry → command_of words.now.items ≡ Some command.Check }
 
     // Each fault has its cause.

@@ -4,6 +4,7 @@ ghost use Rattle.std.specs.Prelude.{◌≡◌, ◌≢◌, ◌+◌, ◌^◌, ◌<
 ghost use Rattle.std.specs.Thread.{IsSync};
 ghost use Rattle.call_trace.specs.declared.trace.Line.{Line as LineIs};
 ghost use Rattle.call_trace.specs.declared.trace.Action.TheVariants as act;
+ghost use Rattle.run_top.specs.OwnLines.{own_lines};
 ghost use Rattle.run_top.specs.Racing.{Worked, AreWorked, IsReady, key, keys};
 
 use call_trace::{Action, Line};
@@ -145,7 +146,7 @@ fn serve<R: Wait>(rt: &R, alloc: Global, shared: &Shared, line: &Line, worker: &
 }
 
 /// Comes to a line: serves it where it is the worker's own, and calls the gate before and after
-/// it. `k` of the worker's lines stand before.
+/// it. `k` of the worker's own lines stand before, and the answer is how many stand before the next.
 fn visit<R: Wait, G: Gate>(
     rt: &R,
     alloc: Global,
@@ -159,6 +160,7 @@ fn visit<R: Wait, G: Gate>(
     requires of { worker.old.seat.of ≡ shared.now.of }
     requires actor { worker.old.seat.number ≡ worker.old.actor }
     ensures count { result ≤ k + 1 }
+    ensures own { result ≡ k + own_lines worker.old.actor (line.now ∷ []) }
     ensures key { key worker.new ≡ key worker.old }
     ensures actor { worker.new.actor ≡ worker.old.actor }
     ensures worked { (lines : List LineIs) → Worked lines worker.old → Worked (lines ++ line.now ∷ []) worker.new }

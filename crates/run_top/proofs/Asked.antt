@@ -1,0 +1,341 @@
+-- A command is read just where the words ask for it.
+use Rattle.std.proofs.Common.{◌≡◌, ℕ, zero, suc, ◌+◌, ◌≤◌, Bool, true, false, ◌&&◌, cond, nat_eq, nat_le, List, [], ◌∷◌, ◌++◌, length, take, drop, append_assoc, Option, None, Some, inl, inr, ◌⊎◌, refl, sym, ap, subst, ◌∙◌, arith}
+use Rattle.std.specs.Prelude.{codes, map}
+use Rattle.std.specs.Str.{bytes_eq}
+use Rattle.std.specs.Cmp.Lexicographic.{pointwise}
+use Rattle.std.proofs.lemmas.Bool.{and_parts, and_from, leb-true, le-leb}
+use Rattle.std.proofs.lemmas.List.{take-append-drop}
+use Rattle.std.proofs.lemmas.Slice.Eq.{bytes_eq-Decides}
+use Rattle.gcc_units.specs.Listed.{Listed}
+use Rattle.gcc_units.specs.declared.limits.TheConstants.{MOST_ACTORS, MOST_LINES}
+use Rattle.call_trace.specs.Fields.{number_of}
+use Rattle.run_top.specs.declared.words.Command.{Command}
+use Rattle.run_top.specs.declared.words.Command.TheVariants as command
+use Rattle.run_top.specs.declared.options.Name.{Name}
+use Rattle.run_top.specs.declared.options.Name.TheVariants as name
+use Rattle.run_top.specs.declared.options.Given.{Given}
+use Rattle.run_top.specs.Words.{◌>>=◌, is_text, name_text, given, stripped, in_two, in_one, option_of, or_else, option_at, options_at, number_for, up_to, alone, make_at, demo_at, command_of, IsUpTo}
+use Rattle.run_top.specs.Asking.{texts, IsOption, AreOptions, AreInAnyOrder, HaveOptions, Asks}
+use Rattle.run_top.proofs.Decimals.{number_is, is_number}
+use Rattle.run_top.proofs.InOrder.{cond_some, AreOther, first_number, number_behind, as_many, two_in_order, three_in_order}
+
+abbrev Words : Type 0
+Words = List (Listed ℕ)
+
+abbrev Word : Type 0
+Word = Listed ℕ
+
+-- the word of these bytes
+abbrev word_of : List ℕ → ℕ → Word
+word_of bytes spare = record { items = bytes; spare = spare }
+
+then_some : {A B : Type 0} (o : Option A) (f : A → Option B) (y : B) → (o >>= f) ≡ Some y → (x : A) × (o ≡ Some x) × (f x ≡ Some y)
+then_some None f y e = absurd cc
+then_some (Some x) f y e = (x, refl, e)
+
+else_some : {A : Type 0} (a b : Option A) (x : A) → or_else a b ≡ Some x → (a ≡ Some x) ⊎ (b ≡ Some x)
+else_some None b x e = inr e
+else_some (Some y) b x e = inl e
+
+some_is : {A : Type 0} (x y : A) → Some x ≡ Some y → x ≡ y
+some_is x y e = cc
+
+-- ---- what is read is asked for
+
+stripped_is : (front bytes rest : List ℕ) → stripped front bytes ≡ Some rest → bytes ≡ front ++ rest
+stripped_is front bytes rest e =
+    elim (cond_some (pointwise nat_eq (take (length front) bytes) front) (Some (drop (length front) bytes)) None rest e) [
+      | inl here ↦
+          sym (take-append-drop (length front) bytes)
+          ∙ (ap (λ xs. xs ++ drop (length front) bytes) ((bytes_eq-Decides (take (length front) bytes) front).0 here.0)
+          ∙ ap (λ xs. front ++ xs) (some_is (drop (length front) bytes) rest here.1))
+      | inr other ↦ absurd (let no : None ≡ Some rest = other.1 in cc)
+    ]
+
+-- words begin with an option, and what stands behind it is left
+abbrev Took : Words → Given → Words → Type 0
+Took words option rest = (first : List (List ℕ)) × (texts words ≡ first ++ texts rest) × IsOption first option
+
+two_is : (n : Name) (word : Word) (words rest : Words) (option : Given) → word.items ≡ name_text n → in_two n words ≡ Some (option, rest) → Took (word ∷ words) option rest
+two_is n word [] rest option named e = absurd cc
+two_is n word (w ∷ ws) rest option named e =
+    let b = then_some (number_of w.items) (λ number. Some (given n number, ws)) (option, rest) e in
+    let same : (given n b.0, ws) ≡ (option, rest) = some_is (given n b.0, ws) (option, rest) b.2 in
+    subst (λ (t : Given × Words). Took (word ∷ w ∷ ws) t.0 t.1) same
+    (word.items ∷ w.items ∷ [], refl, (w.items, number_is w.items b.0 b.1, inl (ap (λ x. x ∷ w.items ∷ []) named)))
+
+one_is : (n : Name) (word : Word) (words rest : Words) (option : Given) → in_one n word words ≡ Some (option, rest) → Took (word ∷ words) option rest
+one_is n word words rest option e =
+    let text = then_some (stripped (name_text n) word.items) (λ text. stripped (codes "=") text >>= (λ digits. number_of digits >>= (λ number. Some (given n number, words)))) (option, rest) e in
+    let digits = then_some (stripped (codes "=") text.0) (λ digits. number_of digits >>= (λ number. Some (given n number, words))) (option, rest) text.2 in
+    let b = then_some (number_of digits.0) (λ number. Some (given n number, words)) (option, rest) digits.2 in
+    let same : (given n b.0, words) ≡ (option, rest) = some_is (given n b.0, words) (option, rest) b.2 in
+    let spelled : word.items ≡ name_text n ++ codes "=" ++ digits.0 =
+    stripped_is (name_text n) word.items text.0 text.1
+    ∙ (ap (λ xs. name_text n ++ xs) (stripped_is (codes "=") text.0 digits.0 digits.1) ∙ sym (append_assoc (name_text n) (codes "=") digits.0)) in
+    subst (λ (t : Given × Words). Took (word ∷ words) t.0 t.1) same
+    (word.items ∷ [], refl, (digits.0, number_is digits.0 b.0 b.1, inr (ap (λ x. x ∷ []) spelled)))
+
+option_is : (n : Name) (words rest : Words) (option : Given) → option_of n words ≡ Some (option, rest) → Took words option rest
+option_is n [] rest option e = absurd cc
+option_is n (word ∷ words) rest option e =
+    elim (cond_some (is_text word (name_text n)) (in_two n words) (in_one n word words) (option, rest) e) [
+      | inl two ↦ two_is n word words rest option ((bytes_eq-Decides word.items (name_text n)).0 two.0) two.1
+      | inr one ↦ one_is n word words rest option one.1
+    ]
+
+any_option_is : (words rest : Words) (option : Given) → option_at words ≡ Some (option, rest) → Took words option rest
+any_option_is words rest option e =
+    elim (else_some (option_of name.Seed words) (or_else (option_of name.Calls words) (option_of name.Actors words)) (option, rest) e) [
+      | inl seed ↦ option_is name.Seed words rest option seed
+      | inr other ↦
+          elim (else_some (option_of name.Calls words) (option_of name.Actors words) (option, rest) other) [
+            | inl calls ↦ option_is name.Calls words rest option calls
+            | inr actors ↦ option_is name.Actors words rest option actors
+          ]
+    ]
+
+options_are : (n : ℕ) (words : Words) (options : List Given) → options_at n words ≡ Some options → AreOptions (texts words) options × (length options ≡ n)
+options_are zero [] options e =
+    let none : [] ≡ options = some_is [] options e in
+    subst (λ os. AreOptions [] os × (length os ≡ zero)) none (refl, refl)
+options_are zero (word ∷ words) options e = absurd cc
+options_are (suc n) words options e =
+    let taken = then_some (option_at words) (λ taken. options_at n taken.1 >>= (λ others. Some (taken.0 ∷ others))) options e in
+    let others = then_some (options_at n taken.0.1) (λ others. Some (taken.0.0 ∷ others)) options taken.2 in
+    let took = any_option_is words taken.0.1 taken.0.0 taken.1 in
+    let more = options_are n taken.0.1 others.0 others.1 in
+    subst (λ os. AreOptions (texts words) os × (length os ≡ suc n)) (some_is (taken.0.0 ∷ others.0) options others.2)
+    ((took.0, texts taken.0.1, took.1, took.2, more.0), omega (arith, more.1))
+
+up_to_is : (most n m : ℕ) → up_to most n ≡ Some m → (n ≡ m) × IsUpTo most m
+up_to_is most n m e =
+    elim (cond_some (nat_le 1 n && nat_le n most) (Some n) None m e) [
+      | inl within ↦
+          let both = and_parts (nat_le 1 n) (nat_le n most) within.0 in
+          let same = some_is n m within.1 in
+          (same, subst (IsUpTo most) same (leb-true 1 n both.0, leb-true n most both.1))
+      | inr other ↦ absurd (let no : None ≡ Some m = other.1 in cc)
+    ]
+
+number_up_to : (most : ℕ) (o : Option ℕ) (m : ℕ) → (o >>= up_to most) ≡ Some m → (o ≡ Some m) × IsUpTo most m
+number_up_to most o m e =
+    let b = then_some o (up_to most) m e in
+    let is = up_to_is most b.0 m b.2 in
+    (b.1 ∙ ap (λ (n : ℕ). Some n) is.0, is.1)
+
+alone_is : (asked : Command) (words : Words) (c : Command) → alone asked words ≡ Some c → (words ≡ []) × (asked ≡ c)
+alone_is asked [] c e = (refl, some_is asked c e)
+alone_is asked (word ∷ words) c e = absurd cc
+
+alone_asks : (asked : Command) (title : List ℕ) (word : Word) (words : Words) (c : Command) → word.items ≡ title → alone asked words ≡ Some c
+    → Asks (title ∷ []) asked → Asks (texts (word ∷ words)) c
+alone_asks asked title word words c titled e asks =
+    let a = alone_is asked words c e in
+    subst (Asks (texts (word ∷ words))) a.1
+    (subst (λ ts. Asks ts asked) (ap (λ t. t ∷ []) (sym titled) ∙ ap (λ (ws : Words). word.items ∷ texts ws) (sym a.0)) asks)
+
+make_is : (word : Word) (words : Words) (c : Command) → word.items ≡ codes "make" → make_at words ≡ Some c → Asks (texts (word ∷ words)) c
+unfolding make_at
+make_is word words c titled e =
+    let options = then_some (options_at 3 words) _ c e in
+    let seed = then_some (number_for name.Seed options.0) _ c options.2 in
+    let calls = then_some (number_for name.Calls options.0 >>= up_to MOST_LINES) _ c seed.2 in
+    let actors = then_some (number_for name.Actors options.0 >>= up_to MOST_ACTORS) _ c calls.2 in
+    let few = number_up_to MOST_LINES (number_for name.Calls options.0) calls.0 calls.1 in
+    let few_actors = number_up_to MOST_ACTORS (number_for name.Actors options.0) actors.0 actors.1 in
+    let read = options_are 3 words options.0 options.1 in
+    let ordered = three_in_order seed.0 calls.0 actors.0 options.0 seed.1 few.0 few_actors.0 read.1 in
+    subst (Asks (texts (word ∷ words))) (some_is _ c actors.2)
+    (texts words, ap (λ t. t ∷ texts words) titled, (options.0, read.0, ordered), few.1, few_actors.1)
+
+demo_is : (word : Word) (words : Words) (c : Command) → word.items ≡ codes "demo" → demo_at words ≡ Some c → Asks (texts (word ∷ words)) c
+unfolding demo_at
+demo_is word words c titled e =
+    let options = then_some (options_at 2 words) _ c e in
+    let seed = then_some (number_for name.Seed options.0) _ c options.2 in
+    let calls = then_some (number_for name.Calls options.0 >>= up_to MOST_LINES) _ c seed.2 in
+    let few = number_up_to MOST_LINES (number_for name.Calls options.0) calls.0 calls.1 in
+    let read = options_are 2 words options.0 options.1 in
+    let ordered = two_in_order seed.0 calls.0 options.0 seed.1 few.0 read.1 in
+    subst (Asks (texts (word ∷ words))) (some_is _ c calls.2)
+    (texts words, ap (λ t. t ∷ texts words) titled, (options.0, read.0, ordered), few.1)
+
+titled : (word : Word) (title : List ℕ) → is_text word title ≡ true → word.items ≡ title
+titled word title e = (bytes_eq-Decides word.items title).0 e
+
+pub asks : (words : Words) (c : Command) → command_of words ≡ Some c → Asks (texts words) c
+unfolding command_of
+asks [] c e = absurd cc
+asks (word ∷ words) c e =
+    elim (cond_some (is_text word (codes "replay")) (alone command.Replay words) _ c e) [
+      | inl a ↦ alone_asks command.Replay (codes "replay") word words c (titled word (codes "replay") a.0) a.1 refl
+      | inr b ↦ elim (cond_some (is_text word (codes "race")) (alone command.Race words) _ c b.1) [
+        | inl a ↦ alone_asks command.Race (codes "race") word words c (titled word (codes "race") a.0) a.1 refl
+        | inr d ↦ elim (cond_some (is_text word (codes "check")) (alone command.Check words) _ c d.1) [
+          | inl a ↦ alone_asks command.Check (codes "check") word words c (titled word (codes "check") a.0) a.1 refl
+          | inr f ↦ elim (cond_some (is_text word (codes "make")) (make_at words) _ c f.1) [
+            | inl a ↦ make_is word words c (titled word (codes "make") a.0) a.1
+            | inr g ↦ elim (cond_some (is_text word (codes "demo")) (demo_at words) None c g.1) [
+              | inl a ↦ demo_is word words c (titled word (codes "demo") a.0) a.1
+              | inr h ↦ absurd (let no : None ≡ Some c = h.1 in cc)
+            ]
+          ]
+        ]
+      ]
+    ]
+
+-- ---- what is asked for is read
+
+abbrev taken_as : Name → Words → ℕ → Option (Given × Words)
+taken_as n words number = Some (given n number, words)
+
+-- the words behind those of an option
+take_two : (n : Name) (k : ℕ) (word : Word) (words : Words) (m : ℕ) → number_of word.items ≡ Some m
+    → option_at (word_of (name_text n) k ∷ word ∷ words) ≡ Some (given n m, words)
+take_two name.Seed k word words m e =
+    subst (λ (o : Option ℕ). or_else (o >>= taken_as name.Seed words)
+    (or_else (option_of name.Calls (word_of (name_text name.Seed) k ∷ word ∷ words)) (option_of name.Actors (word_of (name_text name.Seed) k ∷ word ∷ words))) ≡ Some (given name.Seed m, words))
+    (sym e) refl
+take_two name.Calls k word words m e =
+    subst (λ (o : Option ℕ). or_else (o >>= taken_as name.Calls words)
+    (option_of name.Actors (word_of (name_text name.Calls) k ∷ word ∷ words)) ≡ Some (given name.Calls m, words))
+    (sym e) refl
+take_two name.Actors k word words m e =
+    subst (λ (o : Option ℕ). (o >>= taken_as name.Actors words) ≡ Some (given name.Actors m, words)) (sym e) refl
+
+take_one : (n : Name) (k : ℕ) (digits : List ℕ) (words : Words) (m : ℕ) → number_of digits ≡ Some m
+    → option_at (word_of (name_text n ++ codes "=" ++ digits) k ∷ words) ≡ Some (given n m, words)
+take_one name.Seed k digits words m e =
+    subst (λ (o : Option ℕ). or_else (o >>= taken_as name.Seed words)
+    (or_else (option_of name.Calls (word_of (name_text name.Seed ++ codes "=" ++ digits) k ∷ words)) (option_of name.Actors (word_of (name_text name.Seed ++ codes "=" ++ digits) k ∷ words))) ≡ Some (given name.Seed m, words))
+    (sym e) refl
+take_one name.Calls k digits words m e =
+    subst (λ (o : Option ℕ). or_else (o >>= taken_as name.Calls words)
+    (option_of name.Actors (word_of (name_text name.Calls ++ codes "=" ++ digits) k ∷ words)) ≡ Some (given name.Calls m, words))
+    (sym e) refl
+take_one name.Actors k digits words m e =
+    subst (λ (o : Option ℕ). (o >>= taken_as name.Actors words) ≡ Some (given name.Actors m, words)) (sym e) refl
+
+abbrev Begins : Words → Given → List (List ℕ) → Type 0
+Begins words option rest = (left : Words) × (texts left ≡ rest) × (option_at words ≡ Some (option, left))
+
+begins_two : (words : Words) (n : Name) (m : ℕ) (number : List ℕ) (rest : List (List ℕ)) → texts words ≡ name_text n ∷ number ∷ rest → number_of number ≡ Some m
+    → Begins words (given n m) rest
+begins_two [] n m number rest is e = absurd cc
+begins_two (w ∷ []) n m number rest is e = absurd (let no : w.items ∷ [] ≡ name_text n ∷ number ∷ rest = is in cc)
+begins_two (w ∷ v ∷ ws) n m number rest is e =
+    let first : w.items ≡ name_text n = cc in
+    let second : v.items ≡ number = cc in
+    let behind : texts ws ≡ rest = cc in (
+      ws,
+      behind,
+      subst (λ t. option_at (word_of t w.spare ∷ v ∷ ws) ≡ Some (given n m, ws)) (sym first)
+          (take_two n w.spare v ws m (ap number_of second ∙ e)),
+    )
+
+begins_one : (words : Words) (n : Name) (m : ℕ) (number : List ℕ) (rest : List (List ℕ)) → texts words ≡ (name_text n ++ codes "=" ++ number) ∷ rest → number_of number ≡ Some m
+    → Begins words (given n m) rest
+begins_one [] n m number rest is e = absurd (let no : [] ≡ (name_text n ++ codes "=" ++ number) ∷ rest = is in cc)
+begins_one (w ∷ ws) n m number rest is e =
+    let first : w.items ≡ name_text n ++ codes "=" ++ number = cc in
+    let behind : texts ws ≡ rest = cc in
+    (ws, behind, subst (λ t. option_at (word_of t w.spare ∷ ws) ≡ Some (given n m, ws)) (sym first) (take_one n w.spare number ws m e))
+
+begins : (words : Words) (option : Given) (first rest : List (List ℕ)) → texts words ≡ first ++ rest → IsOption first option → Begins words option rest
+begins words option first rest is (number, value, spelled) =
+    elim spelled [
+      | inl two ↦ begins_two words option.name option.number number rest (is ∙ ap (λ xs. xs ++ rest) two) (is_number number option.number value)
+      | inr one ↦ begins_one words option.name option.number number rest (is ∙ ap (λ xs. xs ++ rest) one) (is_number number option.number value)
+    ]
+
+no_words : (words : Words) → texts words ≡ [] → words ≡ []
+no_words [] is = refl
+no_words (w ∷ ws) is = absurd (let no : w.items ∷ texts ws ≡ [] = is in cc)
+
+take_all : (words : Words) (options : List Given) → AreOptions (texts words) options → options_at (length options) words ≡ Some options
+take_all words [] is = ap (options_at 0) (no_words words is)
+take_all words (option ∷ options) is =
+    let one = begins words option is.0 is.1 is.2 is.3 in
+    let others : options_at (length options) one.0 ≡ Some options = take_all one.0 options (subst (λ ts. AreOptions ts options) (sym one.1) is.4) in
+    ap (λ o. o >>= (λ taken. options_at (length options) taken.1 >>= (λ more. Some (taken.0 ∷ more)))) one.2
+    ∙ ap (λ o. o >>= (λ more. Some (option ∷ more))) others
+
+up_to_gives : (most m : ℕ) → IsUpTo most m → up_to most m ≡ Some m
+up_to_gives most m within = ap (λ b. cond b (Some m) None) (and_from (nat_le 1 m) (nat_le m most) (le-leb 1 m within.0) (le-leb m most within.1))
+
+number_within : (most m : ℕ) (o : Option ℕ) → o ≡ Some m → IsUpTo most m → (o >>= up_to most) ≡ Some m
+number_within most m o e within = ap (λ o. o >>= up_to most) e ∙ up_to_gives most m within
+
+-- the numbers of options in any order
+find_two : (seed calls : ℕ) (options : List Given) → AreInAnyOrder (given name.Seed seed ∷ given name.Calls calls ∷ []) options
+    → (number_for name.Seed options ≡ Some seed) × (number_for name.Calls options ≡ Some calls)
+find_two seed calls options is = (
+  first_number name.Seed seed (given name.Calls calls ∷ []) options is (refl, tt),
+  number_behind name.Calls (given name.Seed seed) (given name.Calls calls ∷ []) options is refl ∙ first_number name.Calls calls [] (is.0 ++ is.1) is.3 tt,
+)
+
+find_three : (seed calls actors : ℕ) (options : List Given) → AreInAnyOrder (given name.Seed seed ∷ given name.Calls calls ∷ given name.Actors actors ∷ []) options
+    → (number_for name.Seed options ≡ Some seed) × (number_for name.Calls options ≡ Some calls) × (number_for name.Actors options ≡ Some actors)
+find_three seed calls actors options is = (
+  first_number name.Seed seed (given name.Calls calls ∷ given name.Actors actors ∷ []) options is (refl, (refl, tt)),
+  number_behind name.Calls (given name.Seed seed) (given name.Calls calls ∷ given name.Actors actors ∷ []) options is refl
+      ∙ first_number name.Calls calls (given name.Actors actors ∷ []) (is.0 ++ is.1) is.3 (refl, tt),
+  number_behind name.Actors (given name.Seed seed) (given name.Calls calls ∷ given name.Actors actors ∷ []) options is refl
+      ∙ (number_behind name.Actors (given name.Calls calls) (given name.Actors actors ∷ []) (is.0 ++ is.1) is.3 refl
+      ∙ first_number name.Actors actors [] (is.3.0 ++ is.3.1) is.3.3 tt),
+)
+
+make_read : (words : Words) (seed calls actors : ℕ) → HaveOptions (texts words) (given name.Seed seed ∷ given name.Calls calls ∷ given name.Actors actors ∷ [])
+    → IsUpTo MOST_LINES calls → IsUpTo MOST_ACTORS actors → make_at words ≡ Some (command.Make seed calls actors)
+unfolding make_at
+make_read words seed calls actors (options, are, ordered) few few_actors =
+    let many : length options ≡ 3 = as_many (given name.Seed seed ∷ given name.Calls calls ∷ given name.Actors actors ∷ []) options ordered in
+    let read : options_at 3 words ≡ Some options = subst (λ n. options_at n words ≡ Some options) many (take_all words options are) in
+    let numbers = find_three seed calls actors options ordered in
+    ap (λ o. o >>= (λ (os : List Given). number_for name.Seed os >>= (λ s. (number_for name.Calls os >>= up_to MOST_LINES) >>= (λ n. (number_for name.Actors os >>= up_to MOST_ACTORS) >>= (λ a. Some (command.Make s n a)))))) read
+    ∙ (ap (λ o. o >>= (λ s. (number_for name.Calls options >>= up_to MOST_LINES) >>= (λ n. (number_for name.Actors options >>= up_to MOST_ACTORS) >>= (λ a. Some (command.Make s n a))))) numbers.0
+    ∙ (ap (λ o. o >>= (λ n. (number_for name.Actors options >>= up_to MOST_ACTORS) >>= (λ a. Some (command.Make seed n a)))) (number_within MOST_LINES calls (number_for name.Calls options) numbers.1 few)
+    ∙ ap (λ o. o >>= (λ a. Some (command.Make seed calls a))) (number_within MOST_ACTORS actors (number_for name.Actors options) numbers.2 few_actors)))
+
+demo_read : (words : Words) (seed calls : ℕ) → HaveOptions (texts words) (given name.Seed seed ∷ given name.Calls calls ∷ [])
+    → IsUpTo MOST_LINES calls → demo_at words ≡ Some (command.Demo seed calls)
+unfolding demo_at
+demo_read words seed calls (options, are, ordered) few =
+    let many : length options ≡ 2 = as_many (given name.Seed seed ∷ given name.Calls calls ∷ []) options ordered in
+    let read : options_at 2 words ≡ Some options = subst (λ n. options_at n words ≡ Some options) many (take_all words options are) in
+    let numbers = find_two seed calls options ordered in
+    ap (λ o. o >>= (λ (os : List Given). number_for name.Seed os >>= (λ s. (number_for name.Calls os >>= up_to MOST_LINES) >>= (λ n. Some (command.Demo s n))))) read
+    ∙ (ap (λ o. o >>= (λ s. (number_for name.Calls options >>= up_to MOST_LINES) >>= (λ n. Some (command.Demo s n)))) numbers.0
+    ∙ ap (λ o. o >>= (λ n. Some (command.Demo seed n))) (number_within MOST_LINES calls (number_for name.Calls options) numbers.1 few))
+
+-- a word of these bytes, and words behind it
+abbrev AreTitled : Words → List ℕ → List (List ℕ) → Type 0
+AreTitled words title rest = (spare : ℕ) × (behind : Words) × (words ≡ word_of title spare ∷ behind) × (texts behind ≡ rest)
+
+are_titled : (words : Words) (title : List ℕ) (rest : List (List ℕ)) → texts words ≡ title ∷ rest → AreTitled words title rest
+are_titled [] title rest is = absurd (let no : [] ≡ title ∷ rest = is in cc)
+are_titled (w ∷ ws) title rest is =
+    let first : w.items ≡ title = cc in
+    let others : texts ws ≡ rest = cc in
+    (w.spare, ws, ap (λ t. word_of t w.spare ∷ ws) first, others)
+
+pub reads : (words : Words) (c : Command) → Asks (texts words) c → command_of words ≡ Some c
+unfolding command_of
+reads words command.Replay is =
+    let at = are_titled words (codes "replay") [] is in
+    ap command_of at.2 ∙ ap (alone command.Replay) (no_words at.1 at.3)
+reads words command.Race is =
+    let at = are_titled words (codes "race") [] is in
+    ap command_of at.2 ∙ ap (alone command.Race) (no_words at.1 at.3)
+reads words command.Check is =
+    let at = are_titled words (codes "check") [] is in
+    ap command_of at.2 ∙ ap (alone command.Check) (no_words at.1 at.3)
+reads words (command.Make seed calls actors) is =
+    let at = are_titled words (codes "make") is.0 is.1 in
+    ap command_of at.2
+    ∙ make_read at.1 seed calls actors (subst (λ ts. HaveOptions ts (given name.Seed seed ∷ given name.Calls calls ∷ given name.Actors actors ∷ [])) (sym at.3) is.2) is.3 is.4
+reads words (command.Demo seed calls) is =
+    let at = are_titled words (codes "demo") is.0 is.1 in
+    ap command_of at.2
+    ∙ demo_read at.1 seed calls (subst (λ ts. HaveOptions ts (given name.Seed seed ∷ given name.Calls calls ∷ [])) (sym at.3) is.2) is.3

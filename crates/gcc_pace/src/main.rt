@@ -37,9 +37,11 @@ fn main(rt: HostRuntime) -> ExitCode {
     let mut source = StdSource::new(rt.stdin());
     let mut sink = StdSink::new(rt.stdout());
     let status = run(&rt, alloc, &words, &mut source, &mut sink, &OpenGate);
-    if let Ok(text) = status.text(alloc) {
-        let _ = rt.stderr().write_all(text.as_slice());
-    }
+    let Ok(text) = status.text(alloc) else {
+        let _ = rt.stderr().write_all(b"no memory\n");
+        return ExitCode::from(NO_MEMORY);
+    };
+    let _ = rt.stderr().write_all(text.as_slice());
     ExitCode::from(status.code())
 }
 

@@ -10,7 +10,7 @@ use Rattle.send_core.specs.Settings.{settings_after, plans}
 use Rattle.send_core.specs.Stands.{AreSettings}
 use Rattle.send_core.specs.Planning.{CanPlan}
 use Rattle.send_core.proofs.StepsMade.{steps_late, steps_refused}
-use Rattle.send_core.proofs.Checking.{HasPassed, has-passed, settings-pass, can-plan}
+use Rattle.send_core.proofs.Checking.{HasPassed, has-passed, settings-pass, start-passes, can-plan}
 use Rattle.send_core.proofs.Configuring.{refused-answer, configured-answer, steps_configured}
 use Rattle.send_core.proofs.parts.Parts.configure.Goals as goal
 
@@ -48,6 +48,10 @@ pub configured-requires-clause-set : goal.configured-requires-clause-set
 configured-requires-clause-set c =
     let p : HasPassed (standing c.requires.0) c.args.change.now = has-passed (standing c.requires.0) c.args.change.now (sym (c.in_ok-fault.ensures c.requires.0 c.requires.1) ∙ c.in_default.is) in
     subst (λ t. AreSettings (settings_after t c.args.change.now)) (sym (ap (λ (y : Parts). y.settings) c.move_to-2.ensures ∙ c.requires.1.set)) (settings-pass (standing c.requires.0) c.args.change.now p c.requires.1.laws.set)
+
+pub configured-requires-clause-start : goal.configured-requires-clause-start
+configured-requires-clause-start c =
+    start-passes (standing c.requires.0) c.args.change.now (has-passed (standing c.requires.0) c.args.change.now (sym (c.in_ok-fault.ensures c.requires.0 c.requires.1) ∙ c.in_default.is))
 
 pub configured-requires-clause-plans : goal.configured-requires-clause-plans
 configured-requires-clause-plans c =

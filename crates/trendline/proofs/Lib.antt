@@ -1,0 +1,5 @@
+mod Lists
+mod Numbers
+mod Gaps
+mod Windows
+mod Few

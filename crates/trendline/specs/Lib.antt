@@ -1,0 +1,3 @@
+pub mod Trend
+pub mod Ranges
+pub mod Given

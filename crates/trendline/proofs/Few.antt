@@ -1,5 +1,5 @@
 -- A few samples that soon follow one another are within what a trend takes.
-use Rattle.std.proofs.Common.{ℕ, ℤ, pos, ◌≡◌, ◌≤ℤ◌, ◌+◌, ◌*◌, ◌≤◌, ◌<◌, neg_ℤ, unsigned_abs, List, [], ◌∷◌, ◌++◌, length, take, All, arith, length-append}
+use Rattle.std.proofs.Common.{ℕ, pos, ◌≡◌, ◌≤ℤ◌, ◌+◌, ◌*◌, ◌≤◌, ◌<◌, neg_ℤ, List, [], ◌∷◌, ◌++◌, length, take, All, arith, length-append}
 use Rattle.std.proofs.lemmas.Int.{ints}
 use Rattle.std.proofs.lemmas.List.{length-take}
 use Rattle.std.proofs.lemmas.List.Elements.{All-push, All-take, All-weaker}

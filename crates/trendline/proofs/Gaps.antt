@@ -1,18 +1,18 @@
 -- The gaps of the samples of one sender are differences of arrivals, so they sum to one.
-use Rattle.std.proofs.Common.{ℕ, zero, suc, ℤ, pos, ◌≡◌, ◌+ℤ◌, ◌-ℤ◌, ◌+◌, ◌-◌, ◌*◌, ◌≤◌, Bool, true, false, if◌then◌else◌, unsigned_abs, List, [], ◌∷◌, ◌++◌, length, take, All, fold, arith, refl, ap, sym, ◌∙◌, subst}
+use Rattle.std.proofs.Common.{ℕ, zero, suc, ℤ, pos, ◌≡◌, ◌+ℤ◌, ◌-ℤ◌, ◌-◌, Bool, true, false, if◌then◌else◌, unsigned_abs, List, [], ◌∷◌, ◌++◌, take, All, fold, arith, refl, sym, subst}
 use Rattle.std.proofs.lemmas.Int.{ints, clamps}
 use Rattle.std.proofs.lemmas.List.Sums.{fold-append}
 use Rattle.std.proofs.lemmas.List.Elements.{All-nil, All-cons, All-head, All-tail, All-append}
 use Rattle.gcc_units.specs.declared.shared_types.Credit.{Credit}
 use Rattle.gcc_units.specs.declared.shared_types.Sample.{Sample}
-use Rattle.gcc_units.specs.declared.limits.TheConstants.{GREATEST_ARRIVAL, GREATEST_DELAY, MOST_PACKETS}
+use Rattle.gcc_units.specs.declared.limits.TheConstants.{GREATEST_ARRIVAL, GREATEST_DELAY}
 use Rattle.packet_groups.specs.Groups.{Run, end_of, last_of, summary, alone, longer, joins, placed, division, grouped_after, grouped, is_behind, delay, difference, differences, samples}
 use Rattle.packet_groups.specs.Kept as kept
 use Rattle.packet_groups.specs.Division.{SamplesAreFew}
 use Rattle.trendline.specs.declared.TheConstants.{GREATEST_TIME}
 use Rattle.trendline.specs.Trend.{total, gap_of}
 use Rattle.trendline.specs.Ranges.{IsNear}
-use Rattle.trendline.specs.Given.{IsDelayWithin, AreWithin, GapsStayWithin}
+use Rattle.trendline.specs.Given.{IsDelayWithin, GapsStayWithin}
 
 -- ---- what the runs end with
 

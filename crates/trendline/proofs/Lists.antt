@@ -1,5 +1,5 @@
 -- What one more sample, or one more point, makes of the points and of the sums over them.
-use Rattle.std.proofs.Common.{ℕ, ℤ, pos, ◌≡◌, ◌+ℤ◌, ◌-ℤ◌, ◌*ℤ◌, ◌+◌, ◌-◌, ◌≤◌, ◌<◌, ◌⊎◌, inl, inr, List, [], ◌∷◌, ◌++◌, length, take, drop, refl, ap, sym, ◌∙◌, arith, length-append, length-drop}
+use Rattle.std.proofs.Common.{ℕ, ℤ, ◌≡◌, ◌+ℤ◌, ◌-ℤ◌, ◌+◌, ◌-◌, ◌≤◌, ◌<◌, inl, inr, List, [], ◌∷◌, ◌++◌, length, drop, refl, ap, sym, ◌∙◌, arith, length-append, length-drop}
 use Rattle.std.proofs.lemmas.Int.{ints}
 use Rattle.std.proofs.lemmas.Bool.{cases_lt}
 use Rattle.std.proofs.lemmas.List.{drop-append-le, drop-drop}
@@ -7,7 +7,6 @@ use Rattle.gcc_units.specs.declared.shared_types.Sample.{Sample}
 use Rattle.gcc_units.specs.Walk.{each_by-push}
 use Rattle.trendline.specs.declared.TheConstants.{MOST_POINTS}
 use Rattle.trendline.specs.declared.sums.Point.{Point}
-use Rattle.trendline.specs.declared.sums.Sums.{Sums}
 use Rattle.trendline.specs.Trend.{total, gap_of, delay_of, point_of, points, last_of, last_points, x_of, y_of, product_of, square_of, sums_of}
 use Rattle.trendline.specs.Ranges.{with_point, without_point}
 use Rattle.trendline.specs.Given.{moved, Kept, StandsFor}

@@ -1,5 +1,5 @@
 -- Ranges of points and of sums over them.
-use Rattle.std.proofs.Common.{ℕ, zero, suc, ℤ, pos, negsuc, neg_ℤ, ◌≡◌, ◌+ℤ◌, ◌-ℤ◌, ◌*ℤ◌, ◌≤ℤ◌, ◌+◌, ◌*◌, ◌^◌, ◌≤◌, ◌<◌, unsigned_abs, false, Option, Some, None, if◌then◌else◌, List, [], ◌∷◌, length, All, arith, rules, to_z, of_z, FitsSigned, refl, ap, sym, subst, ◌∙◌}
+use Rattle.std.proofs.Common.{ℕ, zero, suc, ℤ, pos, negsuc, neg_ℤ, ◌≡◌, ◌+ℤ◌, ◌-ℤ◌, ◌*ℤ◌, ◌+◌, ◌*◌, ◌^◌, ◌≤◌, ◌<◌, unsigned_abs, false, Some, None, List, [], ◌∷◌, length, All, arith, to_z, of_z, FitsSigned, refl, ap, sym, subst, ◌∙◌}
 use Rattle.std.specs.Int.{w64, w128, IsNonZero, int_max, int_min}
 use Rattle.std.specs.Ordering.{int_eq}
 use Rattle.fixed_math.specs.Floor.{floor_div}

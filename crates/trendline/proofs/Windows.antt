@@ -1,5 +1,5 @@
 -- What a window keeps after a point, and what a trend stands for after a sample.
-use Rattle.std.proofs.Common.{ℕ, ℤ, ◌≡◌, ◌+◌, ◌-◌, ◌*◌, ◌≤◌, ◌<◌, Bool, true, false, nat_lt, if◌then◌else◌, unsigned_abs, Option, Some, None, List, [], ◌∷◌, ◌++◌, length, take, drop, slice_get, All, refl, ap, sym, subst, ◌∙◌, arith, length-append}
+use Rattle.std.proofs.Common.{ℕ, ℤ, ◌≡◌, ◌+◌, ◌-◌, ◌*◌, ◌≤◌, ◌<◌, Bool, true, false, nat_lt, if◌then◌else◌, unsigned_abs, Option, Some, None, List, [], ◌∷◌, ◌++◌, length, drop, slice_get, All, refl, ap, sym, subst, ◌∙◌, arith, length-append}
 use Rattle.std.proofs.lemmas.Bool.Decides.{nat_tests}
 use Rattle.std.proofs.lemmas.Nat.{mul-le}
 use Rattle.std.proofs.lemmas.List.{take_all}
@@ -10,7 +10,7 @@ use Rattle.gcc_units.specs.declared.limits.TheConstants.{GREATEST_DELAY, MOST_PA
 use Rattle.trendline.specs.declared.TheConstants.{MOST_POINTS, GREATEST_TIME}
 use Rattle.trendline.specs.declared.sums.Point.{Point}
 use Rattle.trendline.specs.declared.sums.Sums.{Sums}
-use Rattle.trendline.specs.Trend.{total, gap_of, delay_of, point_of, last_of, last_points, sums_of, fit, rise_of, spread_of, slope}
+use Rattle.trendline.specs.Trend.{total, gap_of, delay_of, point_of, last_of, sums_of, fit, rise_of, spread_of, slope}
 use Rattle.trendline.specs.Ranges.{IsNear, IsPointSmall, IsHeld, AreSmall, most_delay, with_point, without_point}
 use Rattle.trendline.specs.Given.{Kept, StandsFor, AreWithin, TakesSample, moved}
 use Rattle.trendline.proofs.Lists.{drop_0, sums-push, sums-first, point-push, stands-more}

@@ -1,5 +1,5 @@
 -- Ranges of points and of sums over them, and what a window keeps.
-use Rattle.std.specs.Prelude.{◌≡◌, ℕ, ℤ, pos, neg_ℤ, ◌+ℤ◌, ◌-ℤ◌, ◌*ℤ◌, ◌≤ℤ◌, ◌+◌, ◌*◌, ◌≤◌, unsigned_abs, List, length, All}
+use Rattle.std.specs.Prelude.{◌≡◌, ℕ, ℤ, pos, neg_ℤ, ◌+ℤ◌, ◌-ℤ◌, ◌*ℤ◌, ◌≤ℤ◌, ◌*◌, ◌≤◌, unsigned_abs, List, length, All}
 use Rattle.gcc_units.specs.declared.limits.TheConstants.{GREATEST_DELAY, MOST_PACKETS}
 use Rattle.trendline.specs.declared.TheConstants.{MOST_POINTS, GREATEST_TIME}
 use Rattle.trendline.specs.declared.sums.Point.{Point}

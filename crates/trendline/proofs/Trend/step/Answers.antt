@@ -1,4 +1,4 @@
-use Rattle.std.proofs.Common.{◌≡◌, ℕ, ◌+◌, ◌<◌, ◌≤◌, ap, arith}
+use Rattle.std.proofs.Common.{◌≡◌, ap, arith}
 use Rattle.trendline.specs.Given.{Kept}
 use Rattle.trendline.proofs.Windows.{point-small, count-few, step-stands, slope-none, slope-some}
 use Rattle.trendline.proofs.Trend.step.Goals as goal

@@ -1,4 +1,4 @@
-use Rattle.std.proofs.Common.{◌≡◌, ℤ, ◌+ℤ◌, FitsSigned, to_z, of_z, arith, rules, ap, sym, ◌∙◌, subst}
+use Rattle.std.proofs.Common.{ℤ, ◌+ℤ◌, FitsSigned, to_z, of_z, arith, rules, ap, sym, ◌∙◌, subst}
 use Rattle.std.specs.Int.{w64}
 use Rattle.trendline.specs.declared.sums.Point.{Point}
 use Rattle.trendline.specs.declared.TheConstants.{GREATEST_TIME}

@@ -1,9 +1,9 @@
-use Rattle.std.proofs.Common.{◌≡◌, ℤ, ◌*ℤ◌, ◌*◌, arith, sym, subst}
+use Rattle.std.proofs.Common.{◌≡◌, ◌*ℤ◌, ◌*◌, arith, sym, subst}
 use Rattle.std.specs.Int.{w64, w128}
 use Rattle.trendline.specs.declared.sums.Sums.{Sums}
 use Rattle.trendline.specs.declared.TheConstants.{GREATEST_TIME}
 use Rattle.trendline.specs.Ranges.{IsNear, AreSmall, most_delay}
-use Rattle.trendline.proofs.Numbers.{sum-fits, sum-is, product-is, near-product, near-same, same-sums, with-small, added-is}
+use Rattle.trendline.proofs.Numbers.{sum-fits, product-is, near-product, near-same, with-small, added-is}
 use Rattle.trendline.proofs.sums.with.Goals as goal
 
 pub overflow_add-result : goal.overflow_add-result

@@ -1,4 +1,4 @@
-use Rattle.std.proofs.Common.{◌≡◌, ℤ, ◌*ℤ◌, ◌*◌, arith}
+use Rattle.std.proofs.Common.{◌≡◌, ◌*ℤ◌, ◌*◌, arith}
 use Rattle.std.specs.Int.{w64, w128}
 use Rattle.trendline.specs.declared.TheConstants.{GREATEST_TIME}
 use Rattle.trendline.specs.Ranges.{IsNear, most_delay}

@@ -1,6 +1,6 @@
-use Rattle.std.proofs.Common.{[], ◌<◌, refl, arith}
+use Rattle.std.proofs.Common.{[], refl, arith}
 use Rattle.std.proofs.lemmas.List.Elements.{All-nil}
-use Rattle.trendline.proofs.Few.{IsSoon, Fed, soon-of, fed-takes, fed-more}
+use Rattle.trendline.proofs.Few.{IsSoon, soon-of, fed-takes, fed-more}
 use Rattle.trendline.proofs.tests.run_agrees.Goals as goal
 
 pub loop-k-init : goal.loop-k-init

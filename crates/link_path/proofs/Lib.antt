@@ -1,0 +1,4 @@
+mod Rising
+mod Offered
+mod LinkRuns
+mod LinkTimes

@@ -1,0 +1,46 @@
+//! Laws of the definitions that the contracts of this crate cite. The functions do nothing; their
+//! contracts are the laws.
+
+ghost use Rattle.std.specs.Prelude.{◌≡◌, ◌↔◌, false, ◌+◌, ◌-◌, ◌*◌, ◌/◌, ◌<◌, ◌≤◌, ◌∷◌, ◌++◌, [], List, All, AllPairs};
+ghost use Rattle.gcc_units.specs.declared.limits.TheConstants.{BYTE};
+ghost use Rattle.link_path.specs.declared.link.LinkSettings.{LinkSettings};
+ghost use Rattle.link_path.specs.declared.link.Arrival.{Arrival};
+ghost use Rattle.link_path.specs.declared.link.Fate.TheVariants.{Dropped};
+ghost use Rattle.link_path.specs.Link.{Offer, Event, offers, fate, free_after, is_dropped, arrival_at, line_time, arrivals, delivered, held};
+ghost use Rattle.link_path.specs.KeptLink.{IsLink, HasBytes};
+ghost use Rattle.link_path.specs.LinkLaws.{bytes_through, times_through};
+
+/// Between the arrivals of two packets the link had time for all that arrive behind the first one, up to the
+/// second: for each one's own time on the line, and for all their bits at the link's rate.
+pub fn no_faster_than_its_rate()
+    ensures times { (s : LinkSettings) (before between : List Offer) (o p : Offer) → IsLink s
+        → is_dropped s before o ≡ false → is_dropped s (before ++ o ∷ between) p ≡ false
+        → arrival_at s before o + times_through s (before ++ o ∷ []) between + line_time s p
+            ≤ arrival_at s (before ++ o ∷ between) p }
+    ensures bits { (s : LinkSettings) (before between : List Offer) (o p : Offer) → IsLink s
+        → is_dropped s before o ≡ false → is_dropped s (before ++ o ∷ between) p ≡ false
+        → BYTE * (bytes_through s (before ++ o ∷ []) between + p.size)
+            ≤ s.rate * (arrival_at s (before ++ o ∷ between) p - arrival_at s before o) }
+{}
+
+/// No packet arrives before it was offered, was sent in its own time on the line and was delayed. Packets
+/// arrive in the order in which they were offered.
+pub fn none_early()
+    ensures early { (s : LinkSettings) (before : List Offer) (o : Offer)
+        → o.moment + line_time s o + s.delay ≤ arrival_at s before o }
+    ensures order { (s : LinkSettings) (os : List Offer) → IsLink s → All HasBytes os
+        → AllPairs (λ (a b : Arrival). a.at < b.at) (arrivals s os) }
+{}
+
+/// A packet is dropped exactly where the bytes that the line still has to send then, with its own, are more
+/// than the queue.
+pub fn dropped_where_full()
+    ensures { (s : LinkSettings) (before : List Offer) (o : Offer)
+        → (fate s before o ≡ Dropped) ↔ (s.queue < s.rate * (free_after s before - o.moment) / BYTE + o.size) }
+{}
+
+/// What was taken out and what is still inside are, one behind the other, all packets that were not dropped.
+pub fn none_lost_from_the_count()
+    ensures { (s : LinkSettings) (events : List Event) → IsLink s → All HasBytes (offers events)
+        → delivered s events ++ held s events ≡ arrivals s (offers events) }
+{}

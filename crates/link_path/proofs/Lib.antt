@@ -2,3 +2,6 @@ mod Rising
 mod Offered
 mod LinkRuns
 mod LinkTimes
+mod Runs
+mod Built
+mod Heard

@@ -1,3 +1,6 @@
 pub mod Link
 pub mod KeptLink
 pub mod LinkLaws
+pub mod Division
+pub mod Building
+pub mod Receiver

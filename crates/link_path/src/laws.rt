@@ -1,7 +1,7 @@
 //! Laws of the definitions that the contracts of this crate cite. The functions do nothing; their
 //! contracts are the laws.
 
-ghost use Rattle.std.specs.Prelude.{◌≡◌, ◌↔◌, false, ◌+◌, ◌-◌, ◌*◌, ◌/◌, ◌<◌, ◌≤◌, ◌∷◌, ◌++◌, [], List, All, AllPairs};
+ghost use Rattle.std.specs.Prelude.{◌≡◌, ◌↔◌, false, ◌+◌, ◌-◌, ◌*◌, ◌/◌, ◌<◌, ◌≤◌, ◌∷◌, ◌++◌, [], ℕ, List, Option, length, All, AllPairs};
 ghost use Rattle.gcc_units.specs.declared.limits.TheConstants.{BYTE};
 ghost use Rattle.link_path.specs.declared.link.LinkSettings.{LinkSettings};
 ghost use Rattle.link_path.specs.declared.link.Arrival.{Arrival};
@@ -9,6 +9,7 @@ ghost use Rattle.link_path.specs.declared.link.Fate.TheVariants.{Dropped};
 ghost use Rattle.link_path.specs.Link.{Offer, Event, offers, fate, free_after, is_dropped, arrival_at, line_time, arrivals, delivered, held};
 ghost use Rattle.link_path.specs.KeptLink.{IsLink, HasBytes};
 ghost use Rattle.link_path.specs.LinkLaws.{bytes_through, times_through};
+ghost use Rattle.link_path.specs.Division.{Run, Told, numbers_in, report_of, runs_of};
 
 /// Between the arrivals of two packets the link had time for all that arrive behind the first one, up to the
 /// second: for each one's own time on the line, and for all their bits at the link's rate.
@@ -16,11 +17,11 @@ pub fn no_faster_than_its_rate()
     ensures times { (s : LinkSettings) (before between : List Offer) (o p : Offer) → IsLink s
         → is_dropped s before o ≡ false → is_dropped s (before ++ o ∷ between) p ≡ false
         → arrival_at s before o + times_through s (before ++ o ∷ []) between + line_time s p
-            ≤ arrival_at s (before ++ o ∷ between) p }
+        ≤ arrival_at s (before ++ o ∷ between) p }
     ensures bits { (s : LinkSettings) (before between : List Offer) (o p : Offer) → IsLink s
         → is_dropped s before o ≡ false → is_dropped s (before ++ o ∷ between) p ≡ false
         → BYTE * (bytes_through s (before ++ o ∷ []) between + p.size)
-            ≤ s.rate * (arrival_at s (before ++ o ∷ between) p - arrival_at s before o) }
+        ≤ s.rate * (arrival_at s (before ++ o ∷ between) p - arrival_at s before o) }
 {}
 
 /// No packet arrives before it was offered, was sent in its own time on the line and was delayed. Packets
@@ -43,4 +44,11 @@ pub fn dropped_where_full()
 pub fn none_lost_from_the_count()
     ensures { (s : LinkSettings) (events : List Event) → IsLink s → All HasBytes (offers events)
         → delivered s events ++ held s events ≡ arrivals s (offers events) }
+{}
+
+/// The runs that a list reports on are, one behind the other, all of its numbers, each once. A report has one
+/// status for each number of its run.
+pub fn reports_tell_of_each_number_once()
+    ensures runs { (numbers : List (Option ℕ)) → numbers_in (runs_of numbers) ≡ numbers }
+    ensures statuses { (told : Told) (before : List Run) (run : Run) → length (report_of told before run).statuses ≡ length run }
 {}

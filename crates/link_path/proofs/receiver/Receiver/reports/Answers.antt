@@ -1,0 +1,26 @@
+use Rattle.std.proofs.Common.{◌≡◌, ◌∙◌, ap, sym, subst, map, List, []}
+use Rattle.gcc_units.specs.Listed.{Listed}
+use Rattle.twcc_report.specs.Spelling.{view}
+use Rattle.twcc_report.specs.declared.report.Report.{Report}
+use Rattle.link_path.specs.Division.{Told, runs_of}
+use Rattle.link_path.specs.Building.{IsAt}
+use Rattle.link_path.specs.Receiver.{KeptReceiver, heard, next_from, next_reports, told_before, told_all}
+use Rattle.link_path.proofs.Heard.{kept-after}
+use Rattle.link_path.proofs.receiver.Receiver.reports.Goals as goal
+
+pub returns-clause-value : goal.returns-clause-value
+returns-clause-value c =
+    let now : KeptReceiver = record { from = c.self.inside.from; last = c.self.inside.last; feedback = c.self.inside.feedback; taken = c.self.inside.taken.items } in
+    let done : IsAt c.end.new.self (told_before now) (runs_of (heard now.from now.taken)) [] =
+    rw c.as_slice.ensures.value at (c.in_ok-end.ensures (told_before now) (heard now.from c.as_slice.result.now) (c.in_ok-next.ensures.built (told_before now) [] c.new-building.ensures)) in
+    let V : KeptReceiver → Type 0 = λ k. map view c.end.new.self.reports.items ≡ next_reports k in
+    ap (λ (l : Listed Report). map view l.items) c.settle.ensures ∙ subst V c.self.view_is done.done
+
+pub returns-clause-state : goal.returns-clause-state
+returns-clause-state c =
+    let now : KeptReceiver = record { from = c.self.inside.from; last = c.self.inside.last; feedback = c.self.inside.feedback; taken = c.self.inside.taken.items } in
+    let done : IsAt c.end.new.self (told_before now) (runs_of (heard now.from now.taken)) [] =
+    rw c.as_slice.ensures.value at (c.in_ok-end.ensures (told_before now) (heard now.from c.as_slice.result.now) (c.in_ok-next.ensures.built (told_before now) [] c.new-building.ensures)) in
+    kept-after now c.in_ok-next.next c.end.new.self.before c.end.new.self.feedback c.clear.new.self.items
+    (c.in_ok-next.ensures.next ∙ ap (next_from now.from) c.as_slice.ensures.value) done.before done.feedback c.clear.ensures.items
+    ∙ ap told_all c.self.view_is

@@ -1,11 +1,15 @@
 -- What one more packet adds to what the receiver tells.
-use Rattle.std.proofs.Common.{◌≡◌, ℕ, suc, zero, ◌+◌, ◌-◌, ◌%◌, ◌<◌, ◌≤◌, Bool, true, false, if◌then◌else◌, fold, Option, Some, None, List, [], ◌∷◌, ◌++◌, length, take, get_or, replicate, refl, sym, ◌∙◌, ap, append-nil, append_assoc, arith}
+use Rattle.std.proofs.Common.{◌≡◌, ℕ, suc, zero, ◌+◌, ◌-◌, ◌%◌, ◌<◌, ◌≤◌, Bool, true, false, if◌then◌else◌, fold, Option, Some, None, List, [], ◌∷◌, ◌++◌, length, take, get_or, replicate, refl, sym, ◌∙◌, ap, append-nil, append_assoc, arith, length-append, map, ◌↔◌}
+use Rattle.std.proofs.lemmas.List.{length-map}
+use Rattle.gcc_units.specs.Walk.{each_by-length}
+use Rattle.twcc_report.specs.Spelling.{view}
+use Rattle.twcc_report.specs.declared.report.Report.{Report}
 use Rattle.link_path.specs.declared.TheConstants.{GREATEST_TAKEN}
 use Rattle.link_path.specs.declared.link.Arrival.{Arrival}
 use Rattle.link_path.specs.declared.building.Building.{Building}
-use Rattle.link_path.specs.Division.{Run, Told, Division, begins, placed, divided, runs_with, runs_of, numbers_in, last_time}
+use Rattle.link_path.specs.Division.{Run, Told, Division, begins, placed, divided, runs_with, runs_of, numbers_in, last_time, report_of}
 use Rattle.link_path.specs.Building.{IsAt}
-use Rattle.link_path.specs.Receiver.{KeptReceiver, quarters, heard, next_from, NumbersRise, told_all}
+use Rattle.link_path.specs.Receiver.{KeptReceiver, quarters, heard, next_from, NumbersRise, told_all, told_before, next_reports}
 use Rattle.link_path.proofs.Runs.{numbers-push}
 
 -- the numbers that a packet adds
@@ -96,3 +100,22 @@ pub kept-after : (now : KeptReceiver) (from last feedback : ℕ) (taken : List A
 kept-after now from last feedback taken from_is last_is feedback_is taken_is =
     let last_heard : last ≡ last_time now.last (heard now.from now.taken) = last_is ∙ ap (last_time now.last) (all-numbers (heard now.from now.taken)) in
     rw (from_is, last_heard, feedback_is, taken_is) refl
+
+-- ---- where nothing was taken
+
+some-heard : (from : ℕ) (taken : List Arrival) → length (heard from taken) ≡ 0 → taken ≡ []
+some-heard from [] h = refl
+some-heard from (a ∷ later) h =
+    absurd (omega (arith, length-append (piece from a) (heard (a.number + 1) later), length-append (replicate (a.number - from) None) (Some (quarters a) ∷ [])))
+
+no-runs : (runs : List Run) → length runs ≡ 0 → numbers_in runs ≡ []
+no-runs [] h = refl
+no-runs (run ∷ runs) h = absurd (omega arith)
+
+pub empty-by : (now : KeptReceiver) (items : List Report) → map view items ≡ next_reports now → (length items ≡ 0) ↔ (now.taken ≡ [])
+empty-by now items value =
+    let numbers : List (Option ℕ) = heard now.from now.taken in
+    let count : length items ≡ length (runs_of numbers) = sym (length-map items view) ∙ ap length value ∙ each_by-length (report_of (told_before now)) [] (runs_of numbers) in (
+      λ h. some-heard now.from now.taken (ap length (sym (all-numbers numbers) ∙ no-runs (runs_of numbers) (sym count ∙ h))),
+      λ e. count ∙ ap (λ (taken : List Arrival). length (runs_of (heard now.from taken))) e,
+    )

@@ -1,5 +1,5 @@
 -- Over all offers and questions: arrivals rise, and what was taken out and what is inside are all of them.
-use Rattle.std.proofs.Common.{◌≡◌, ℕ, suc, zero, ◌+◌, ◌*◌, ◌/◌, ◌%◌, ◌<◌, ◌≤◌, min, max, Bool, true, false, if◌then◌else◌, List, [], ◌∷◌, ◌++◌, take, drop, All, refl, sym, ◌∙◌, ap, subst, append-nil, append_assoc, arith}
+use Rattle.std.proofs.Common.{◌≡◌, ℕ, suc, zero, ◌+◌, ◌*◌, ◌≤◌, Bool, true, false, if◌then◌else◌, List, [], ◌∷◌, ◌++◌, drop, All, refl, sym, ◌∙◌, ap, subst, append-nil, append_assoc, arith}
 use Rattle.std.specs.Int.{div_ceil}
 use Rattle.std.specs.List.{filter, prefix_len}
 use Rattle.std.proofs.lemmas.Grind.{div_ceil_times}
@@ -8,7 +8,7 @@ use Rattle.std.proofs.lemmas.List.Elements.{All-head, All-tail}
 use Rattle.gcc_units.specs.declared.limits.TheConstants.{BYTE}
 use Rattle.link_path.specs.declared.link.LinkSettings.{LinkSettings}
 use Rattle.link_path.specs.declared.link.Arrival.{Arrival}
-use Rattle.link_path.specs.Link.{Offer, Event, offered, asked, offer_in, offers, is_full, sent_by, line_time, free_with, free_after, is_dropped, arrival_at, arrival_of, arrivals, held_with, held, given, delivered, has_arrived, is_on_its_way}
+use Rattle.link_path.specs.Link.{Offer, Event, offered, asked, offers, is_full, sent_by, line_time, free_after, is_dropped, arrival_of, arrivals, held, delivered, has_arrived, is_on_its_way}
 use Rattle.link_path.specs.KeptLink.{IsLink, HasBytes, RisesBetween}
 use Rattle.link_path.proofs.Rising.{cut, rises-push, rises-drop}
 use Rattle.link_path.proofs.Offered.{offers-push, held-push, free-push, arrivals-push, delivered-push}

@@ -1,13 +1,12 @@
 -- The line is no faster than its rate.
-use Rattle.std.proofs.Common.{◌≡◌, ℕ, ◌+◌, ◌-◌, ◌*◌, ◌/◌, ◌%◌, ◌≤◌, min, max, Bool, true, false, if◌then◌else◌, List, [], ◌∷◌, ◌++◌, sum, refl, sym, ◌∙◌, ap, append-nil, append_assoc, arith, mul-add, mul-zero, mul_comm, le_refl, le_trans}
-use Rattle.std.specs.Int.{div_ceil}
+use Rattle.std.proofs.Common.{◌≡◌, ℕ, ◌+◌, ◌-◌, ◌*◌, ◌≤◌, max, Bool, true, false, if◌then◌else◌, List, [], ◌∷◌, ◌++◌, refl, ◌∙◌, append-nil, append_assoc, arith, mul-add, mul_comm, le_refl}
 use Rattle.std.proofs.lemmas.Grind.{div_ceil_times}
 use Rattle.std.proofs.lemmas.List.Sums.{sum_by-cons}
 use Rattle.std.proofs.lemmas.Nat.{mul-le}
 use Rattle.gcc_units.specs.Walk.{each_by}
 use Rattle.gcc_units.specs.declared.limits.TheConstants.{BYTE}
 use Rattle.link_path.specs.declared.link.LinkSettings.{LinkSettings}
-use Rattle.link_path.specs.Link.{Offer, is_full, sent_by, line_time, free_with, free_after, is_dropped, arrival_at}
+use Rattle.link_path.specs.Link.{Offer, sent_by, line_time, free_after, is_dropped, arrival_at}
 use Rattle.link_path.specs.KeptLink.{IsLink}
 use Rattle.link_path.specs.LinkLaws.{time_of, bytes_of, times_through, bytes_through}
 use Rattle.link_path.proofs.Offered.{free-push}

@@ -1,5 +1,5 @@
 -- What one more offer or question makes of a link, and of the definitions over all of them.
-use Rattle.std.proofs.Common.{◌≡◌, ℕ, ◌+◌, ◌-◌, ◌*◌, ◌/◌, ◌^◌, ◌<◌, ◌≤◌, max, Bool, true, false, nat_lt, if◌then◌else◌, List, [], ◌∷◌, ◌++◌, take, drop, refl, sym, ◌∙◌, ap, subst, append-nil, arith, le_refl, length-drop}
+use Rattle.std.proofs.Common.{◌≡◌, ℕ, ◌+◌, ◌-◌, ◌*◌, ◌/◌, ◌^◌, ◌<◌, ◌≤◌, max, true, false, nat_lt, if◌then◌else◌, List, [], ◌∷◌, ◌++◌, take, drop, refl, sym, ◌∙◌, ap, subst, append-nil, arith, le_refl, length-drop}
 use Rattle.std.specs.List.{filter, prefix_len}
 use Rattle.std.proofs.lemmas.Bool.Decides.{nat_tests}
 use Rattle.std.proofs.lemmas.List.Sums.{fold-append}
@@ -9,8 +9,8 @@ use Rattle.gcc_units.specs.declared.limits.TheConstants.{BYTE, GREATEST_MOMENT, 
 use Rattle.link_path.specs.declared.link.LinkSettings.{LinkSettings}
 use Rattle.link_path.specs.declared.link.Arrival.{Arrival}
 use Rattle.link_path.specs.Link.{Offer, Event, offered, asked, offer_in, offers, is_full, sent_by, line_time, free_with, free_after, arrival_of, arrivals, held_with, held, given, delivered, has_arrived, is_on_its_way}
-use Rattle.link_path.specs.KeptLink.{KeptLink, IsLink, IsKeptLink, StandsFor, RisesBetween}
-use Rattle.link_path.proofs.Rising.{IsCut, cut, rises-push, rises-drop}
+use Rattle.link_path.specs.KeptLink.{KeptLink, IsLink, IsKeptLink, StandsFor}
+use Rattle.link_path.proofs.Rising.{cut, rises-drop}
 
 pub offers-push : (events : List Event) (e : Event) → offers (events ++ e ∷ []) ≡ offers events ++ offer_in e
 offers-push events e = flat_map-push offer_in events e

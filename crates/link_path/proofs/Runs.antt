@@ -1,11 +1,11 @@
 -- What one more number makes of a run, and one more run of the reports.
-use Rattle.std.proofs.Common.{◌≡◌, ℕ, suc, pos, ◌+◌, ◌-◌, ◌*◌, ◌/◌, ◌%◌, ◌≤◌, Bool, true, false, nat_le, nat_lt, if◌then◌else◌, Option, Some, None, List, [], ◌∷◌, ◌++◌, length, map, fold, refl, sym, ◌∙◌, ap, subst, arith, append-nil, length-append}
+use Rattle.std.proofs.Common.{◌≡◌, ℕ, suc, ◌-◌, ◌*◌, ◌/◌, ◌≤◌, Option, Some, None, List, [], ◌∷◌, ◌++◌, length, refl, ap, arith}
 use Rattle.std.specs.Option.{unwrap_or}
 use Rattle.std.proofs.lemmas.List.Sums.{fold-append}
 use Rattle.gcc_units.specs.Walk.{each_by-push, flat_map-push}
 use Rattle.twcc_report.specs.declared.report.Status.{Status}
 use Rattle.link_path.specs.declared.TheConstants.{GREATEST_DELTA}
-use Rattle.link_path.specs.Division.{Run, Division, Told, begins, placed, divided, first_time, last_time, time_after, numbers_in, status_at, statuses, report_of, reports_on}
+use Rattle.link_path.specs.Division.{Run, Told, placed, divided, first_time, last_time, time_after, numbers_in, status_at, statuses, report_of, reports_on}
 
 pub first-missing : (time : ℕ) (run : Run) → first_time time (run ++ None ∷ []) ≡ first_time time run
 first-missing time [] = refl

@@ -1,9 +1,9 @@
 -- What is kept while a list of reports is built.
-use Rattle.std.specs.Prelude.{◌≡◌, ℕ, ◌+◌, ◌*◌, ◌/◌, ◌%◌, Option, List, [], length, map}
+use Rattle.std.specs.Prelude.{◌≡◌, ℕ, ◌+◌, ◌*◌, ◌/◌, ◌%◌, Option, List, length, map}
 use Rattle.std.specs.Option.{unwrap_or}
 use Rattle.twcc_report.specs.Spelling.{view}
 use Rattle.link_path.specs.declared.building.Building.{Building}
-use Rattle.link_path.specs.Division.{Run, Division, Told, divided, first_time, last_time, numbers_in, statuses, reports_on}
+use Rattle.link_path.specs.Division.{Run, Told, divided, first_time, last_time, numbers_in, statuses, reports_on}
 
 -- the reports on these runs are built, and the next one so far
 pub record IsAt (b : Building) (told : Told) (ended : List Run) (run : Run) : Type 0 where

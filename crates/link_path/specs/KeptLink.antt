@@ -1,5 +1,5 @@
 -- What is kept of a link, and the offers and questions that it stands for.
-use Rattle.std.specs.Prelude.{◌≡◌, ℕ, ◌+◌, ◌*◌, ◌^◌, ◌<◌, ◌≤◌, List, [], ◌∷◌, length}
+use Rattle.std.specs.Prelude.{◌≡◌, ℕ, ◌+◌, ◌^◌, ◌<◌, ◌≤◌, List, [], ◌∷◌, length}
 use Rattle.gcc_units.specs.declared.limits.TheConstants.{GREATEST_RATE, LEAST_RATE}
 use Rattle.link_path.specs.declared.TheConstants.{LEAST_QUEUE, GREATEST_QUEUE, LONGEST_DELAY}
 use Rattle.link_path.specs.declared.link.LinkSettings.{LinkSettings}

@@ -1,5 +1,5 @@
 -- What the laws of the link speak of.
-use Rattle.std.specs.Prelude.{ℕ, ◌+◌, if◌then◌else◌, List, [], ◌∷◌, ◌++◌, sum}
+use Rattle.std.specs.Prelude.{ℕ, if◌then◌else◌, List, sum}
 use Rattle.gcc_units.specs.Walk.{each_by}
 use Rattle.link_path.specs.declared.link.LinkSettings.{LinkSettings}
 use Rattle.link_path.specs.Link.{Offer, is_dropped, line_time}

@@ -1,5 +1,5 @@
 -- The receiver: what it tells of the numbers that no list told of before.
-use Rattle.std.specs.Prelude.{◌≡◌, ℕ, ◌+◌, ◌-◌, ◌/◌, ◌%◌, ◌≤◌, Option, Some, None, List, [], ◌∷◌, ◌++◌, length, replicate}
+use Rattle.std.specs.Prelude.{ℕ, ◌+◌, ◌-◌, ◌/◌, ◌%◌, ◌≤◌, Some, None, List, [], ◌∷◌, ◌++◌, length, replicate}
 use Rattle.gcc_units.specs.declared.limits.TheConstants.{ARRIVAL_MICROSECONDS}
 use Rattle.twcc_report.specs.Spelling.{Feedback}
 use Rattle.link_path.specs.declared.TheConstants.{GREATEST_TAKEN}

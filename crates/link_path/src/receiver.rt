@@ -1,6 +1,6 @@
 //! The receiver: it takes what arrives, and reports it.
 
-ghost use Rattle.std.specs.Prelude.{◌≡◌, ℕ, ◌+◌, ◌≤◌, ◌∷◌, ◌++◌, [], List, Option, None, length, map, replicate, IfOk, OnOk, OnErr};
+ghost use Rattle.std.specs.Prelude.{◌≡◌, ◌↔◌, ℕ, ◌+◌, ◌≤◌, ◌∷◌, ◌++◌, [], List, Option, None, length, map, replicate, IfOk, OnOk, OnErr};
 ghost use Rattle.gcc_units.specs.Listed.{bare};
 ghost use Rattle.twcc_report.specs.Spelling.{view};
 ghost use Rattle.link_path.specs.Division.{Told};
@@ -94,6 +94,9 @@ impl Receiver {
     /// receiver is as before.
     pub fn reports(&mut self, alloc: Global) -> Result<ReportList, NoMemory>
         ensures value { IfOk result (λ l. map view l.items ≡ next_reports self.old) }
+
+        // It is empty exactly where nothing was taken since the last list.
+        ensures empty { IfOk result (λ l. (length l.items ≡ 0) ↔ (self.old.taken ≡ [])) }
         ensures settled { IfOk result (λ l. l ≡ bare l.items) }
         ensures state { OnOk result (self.new ≡ told_all self.old) }
         ensures err { OnErr result (self.new ≡ self.old) }

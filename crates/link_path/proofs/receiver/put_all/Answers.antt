@@ -1,4 +1,4 @@
-use Rattle.std.proofs.Common.{◌≡◌, ◌∙◌, ◌<◌, ◌++◌, ◌+◌, ◌-◌, List, get_or, subst, length, take, replicate, None, arith}
+use Rattle.std.proofs.Common.{◌<◌, ◌++◌, ◌+◌, ◌-◌, get_or, subst, length, take, replicate, None, arith}
 use Rattle.std.proofs.lemmas.Bool.Decides.{nat_tests}
 use Rattle.std.proofs.lemmas.List.{take_more}
 use Rattle.link_path.specs.declared.link.Arrival.{Arrival}

@@ -1,4 +1,4 @@
-use Rattle.std.proofs.Common.{◌≡◌, ◌∙◌, ap, ◌-◌}
+use Rattle.std.proofs.Common.{◌∙◌, ap, ◌-◌}
 use Rattle.link_path.proofs.Runs.{near-by}
 use Rattle.link_path.proofs.Built.{missing-at, received-at}
 use Rattle.link_path.proofs.building.Building.append.Goals as goal

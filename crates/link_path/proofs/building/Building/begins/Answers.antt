@@ -1,6 +1,5 @@
-use Rattle.std.proofs.Common.{◌≡◌, length, ◌∙◌, ap, arith, ◌≤◌, ◌<◌}
+use Rattle.std.proofs.Common.{◌≡◌, length, ◌∙◌, arith}
 use Rattle.std.proofs.lemmas.Bool.Decides.{nat_tests}
-use Rattle.gcc_units.specs.declared.limits.TheConstants.{MOST_STATUSES}
 use Rattle.link_path.proofs.Built.{begun-length, full-begins, missing-stays, received-begins}
 use Rattle.link_path.proofs.building.Building.begins.Goals as goal
 

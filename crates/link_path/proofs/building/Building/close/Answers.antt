@@ -1,4 +1,4 @@
-use Rattle.std.proofs.Common.{◌≡◌, List, ◌∷◌, ◌++◌, ◌∙◌, ap, length, arith, pos, ◌/◌, to_z}
+use Rattle.std.proofs.Common.{◌≡◌, ◌∙◌, ap, length, arith, pos, ◌/◌, to_z}
 use Rattle.std.specs.Int.{w32}
 use Rattle.std.proofs.lemmas.Int.{ints}
 use Rattle.gcc_units.specs.Listed.{Listed}

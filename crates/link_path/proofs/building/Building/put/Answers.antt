@@ -1,4 +1,4 @@
-use Rattle.std.proofs.Common.{◌≡◌, sym, ◌∙◌, [], ◌∷◌, ◌++◌}
+use Rattle.std.proofs.Common.{sym, ◌∙◌, [], ◌∷◌, ◌++◌}
 use Rattle.link_path.specs.Division.{divided}
 use Rattle.link_path.proofs.Built.{put-begins, put-stays}
 use Rattle.link_path.proofs.building.Building.put.Goals as goal

@@ -1,11 +1,11 @@
-use Rattle.std.proofs.Common.{◌≡◌, ◌∙◌, ap, sym, subst, map, List, []}
+use Rattle.std.proofs.Common.{◌≡◌, ◌∙◌, ap, subst, map, []}
 use Rattle.gcc_units.specs.Listed.{Listed}
 use Rattle.twcc_report.specs.Spelling.{view}
 use Rattle.twcc_report.specs.declared.report.Report.{Report}
-use Rattle.link_path.specs.Division.{Told, runs_of}
+use Rattle.link_path.specs.Division.{runs_of}
 use Rattle.link_path.specs.Building.{IsAt}
 use Rattle.link_path.specs.Receiver.{KeptReceiver, heard, next_from, next_reports, told_before, told_all}
-use Rattle.link_path.proofs.Heard.{kept-after}
+use Rattle.link_path.proofs.Heard.{empty-by, kept-after}
 use Rattle.link_path.proofs.receiver.Receiver.reports.Goals as goal
 
 pub returns-clause-value : goal.returns-clause-value
@@ -24,3 +24,6 @@ returns-clause-state c =
     kept-after now c.in_ok-next.next c.end.new.self.before c.end.new.self.feedback c.clear.new.self.items
     (c.in_ok-next.ensures.next ∙ ap (next_from now.from) c.as_slice.ensures.value) done.before done.feedback c.clear.ensures.items
     ∙ ap told_all c.self.view_is
+
+pub returns-clause-empty : goal.returns-clause-empty
+returns-clause-empty c = empty-by c.args.self.now c.settle.new.self.items (returns-clause-value c)

@@ -5,6 +5,9 @@
    FAIL_KIND  growth, read, write: what is counted; FAIL_AT the ordinal, from 0, of the one that fails
    FAIL_AS    error (by default), or signal: it fails as one that a signal interrupted, once
    FAIL_SHORT 1: each read and each write moves at most one byte
+   FAIL_PLANT a wrong adapter over the streams: full (a short read is told as a full buffer), whole (a short
+              write is told as the whole piece), twice (a write is made twice), end (an error of reading is
+              told as the end of the input)
    FAIL_COUNT a file's name: the three counts stand there as numbers of the machine */
 #define _GNU_SOURCE
 #include <dlfcn.h>
@@ -22,6 +25,7 @@ enum kind { GROWTH, READ, WRITE, KINDS };
 static atomic_long own_counts[KINDS];
 static atomic_long *counts = own_counts;
 static int begun, failing = -1, by_signal, one_byte;
+static const char *planted = "";
 static long failing_at = -1;
 
 static void *(*true_malloc)(size_t);
@@ -56,6 +60,8 @@ __attribute__((constructor)) static void begin(void)
         failing_at = atol(at);
     by_signal = as && !strcmp(as, "signal");
     one_byte = getenv("FAIL_SHORT") != NULL;
+    if (getenv("FAIL_PLANT"))
+        planted = getenv("FAIL_PLANT");
     if (getenv("FAIL_COUNT"))
         share(getenv("FAIL_COUNT"));
     begun = 1;
@@ -93,18 +99,24 @@ void *realloc(void *old, size_t size)
 
 ssize_t read(int file, void *room, size_t size)
 {
+    ssize_t moved;
     if (file == 0 && fails(READ)) {
         errno = by_signal ? EINTR : EIO;
-        return -1;
+        return strcmp(planted, "end") ? -1 : 0;
     }
-    return true_read(file, room, file == 0 && one_byte && size > 1 ? 1 : size);
+    moved = true_read(file, room, file == 0 && one_byte && size > 1 ? 1 : size);
+    return file == 0 && moved > 0 && !strcmp(planted, "full") ? (ssize_t)size : moved;
 }
 
 ssize_t write(int file, const void *bytes, size_t size)
 {
+    ssize_t moved;
     if (file == 1 && fails(WRITE)) {
         errno = by_signal ? EINTR : EIO;
         return -1;
     }
-    return true_write(file, bytes, file == 1 && one_byte && size > 1 ? 1 : size);
+    moved = true_write(file, bytes, file == 1 && one_byte && size > 1 ? 1 : size);
+    if (file == 1 && moved > 0 && !strcmp(planted, "twice"))
+        true_write(file, bytes, (size_t)moved);
+    return file == 1 && moved > 0 && !strcmp(planted, "whole") ? (ssize_t)size : moved;
 }

@@ -82,4 +82,4 @@ pub record IsNear (distance a b : ℕ) : Type 0 where
 -- packets that were sent within 50 ms of the first, and early enough
 pub record AreNear (moments : List ℕ) : Type 0 where
   pub each : All (IsNear 50000 (slice_index moments 0)) moments
-  pub early : slice_index moments 0 < 2 ^ 32
+  pub early : slice_index moments 0 < 2 ^ 33

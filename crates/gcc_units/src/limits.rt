@@ -25,13 +25,13 @@ pub const MOST_TRACE_BYTES: u64 = 536_870_912;
 pub const MOST_CHECK_BYTES: u64 = 1_073_741_824;
 
 /// The most lines of action of a trace.
-pub const MOST_LINES: u32 = 200_000;
+pub const MOST_LINES: u32 = 1_000_000;
 
 /// The most actors of a trace.
-pub const MOST_ACTORS: u32 = 16;
+pub const MOST_ACTORS: u32 = 64;
 
 /// The most packets that wait.
-pub const MOST_WAITING: u32 = 4_096;
+pub const MOST_WAITING: u32 = 8_192;
 
 /// How many of the last sent packets are kept for crediting.
 pub const KEPT_PACKETS: u32 = 32_768;
@@ -46,7 +46,7 @@ pub const MOST_STREAMS: u32 = 32;
 pub const MOST_CLUSTERS: u32 = 16;
 
 /// The most entries of a journal.
-pub const MOST_ENTRIES: u32 = 200_000;
+pub const MOST_ENTRIES: u32 = 1_000_000;
 
 /// What a byte takes of a level, in micro-bits: eight bits of 1,000,000 each. A rate in bit/s times
 /// a time in microseconds is a level too.

@@ -210,8 +210,20 @@ impl Duplicate for u8 {
     }
 }
 
+impl Duplicate for u16 {
+    fn duplicate(&self, _alloc: Global) -> Result<u16, NoMemory> {
+        Ok(*self)
+    }
+}
+
 impl Duplicate for u32 {
     fn duplicate(&self, _alloc: Global) -> Result<u32, NoMemory> {
+        Ok(*self)
+    }
+}
+
+impl Duplicate for u64 {
+    fn duplicate(&self, _alloc: Global) -> Result<u64, NoMemory> {
         Ok(*self)
     }
 }

@@ -4,7 +4,7 @@ use Rattle.std.proofs.lemmas.Bool.{cases_eq, cases_lt, ne_eqb, lt-ltb, le-ltb}
 use Rattle.rtp_wire.specs.declared.packet.WireFault.{WireFault}
 use Rattle.rtp_wire.specs.declared.packet.WireFault.TheVariants.{Short, Long, Version, BadExtension, NoExtension}
 use Rattle.gcc_units.specs.declared.limits.TheConstants.{LEAST_PACKET, GREATEST_PACKET}
-use Rattle.rtp_wire.specs.Place.{field16, sources_end, extension_start, extension_len, extension, walk, place_of}
+use Rattle.rtp_wire.specs.Place.{field16, sources_end, extension_start, extension_len, extension, header_len, walk, place_of}
 use Rattle.rtp_wire.specs.Elements.{IsOfOneKind}
 use Rattle.rtp_wire.specs.Checks.{Check, fixed_header, size, version, sources, extension_bit, extension_head, one_byte_form, extension_words, elements, number, order, Passes, fault_of, FailsFirst, IsPlace, IsByChecks}
 use Rattle.rtp_wire.proofs.ByElements.{Tells, tells, one_kind}
@@ -195,3 +195,9 @@ place_bounds id bytes place some few e =
       omega (arith, p.place_is, p.number.place, p.passes extension_words, length-take (extension_len bytes) (drop (extension_start bytes) bytes), length-drop (extension_start bytes) bytes),
       p.passes size,
     )
+
+-- a packet that is read ends behind its header
+pub header_inside : (id : ℕ) (bytes : List ℕ) (place : ℕ) → 1 ≤ id → id ≤ 14 → place_of id bytes ≡ Ok place → header_len bytes ≤ length bytes
+header_inside id bytes place some few e =
+    let p : IsPlace id bytes place = subst (λ r. Outcome id bytes r) e (outcome id bytes some few) in
+    p.passes extension_words

@@ -24,6 +24,10 @@ extension_start bytes = sources_end bytes + 4
 abbrev pub extension_len : List ℕ → ℕ
 extension_len bytes = 4 * field16 (sources_end bytes + 2) bytes
 
+-- the bytes of the whole header: the fixed part, the contributing sources and the extension
+abbrev pub header_len : List ℕ → ℕ
+header_len bytes = extension_start bytes + extension_len bytes
+
 abbrev pub extension : List ℕ → List ℕ
 extension bytes = take (extension_len bytes) (drop (extension_start bytes) bytes)
 

@@ -1,7 +1,7 @@
 //! Reading a packet.
 
 ghost use Rattle.std.specs.Prelude.{◌≡◌, ◌+◌, ◌≤◌, ◌<◌, Ok, Err, IfOk, IfErr, length};
-ghost use Rattle.rtp_wire.specs.Place.{place_of, walk, field16, field32};
+ghost use Rattle.rtp_wire.specs.Place.{place_of, walk, field16, field32, header_len};
 
 use byteorder::{BigEndian, ByteOrder};
 use gcc_units::{GREATEST_PACKET, LEAST_PACKET};
@@ -35,14 +35,15 @@ pub struct Wire<'a> {
 
 impl<'a> Model for Wire<'a> {
     ghost use Rattle.std.specs.Prelude.{◌+◌, ◌≤◌, length};
-    ghost use Rattle.gcc_units.specs.declared.limits.TheConstants.{LEAST_PACKET};
+    ghost use Rattle.gcc_units.specs.declared.limits.TheConstants.{LEAST_PACKET, GREATEST_PACKET};
     ghost use Rattle.rtp_wire.specs.Packet.{Packet};
+    ghost use Rattle.rtp_wire.specs.Place.{header_len};
 
     ghost Value = { Packet };
 
     ghost view = { λ w. record { bytes = w.bytes.now; place = w.place } };
 
-    ghost invariant = { λ w. (LEAST_PACKET ≤ w.place) × (w.place + 2 ≤ length w.bytes.now) };
+    ghost invariant = { λ w. (LEAST_PACKET ≤ w.place) × (w.place + 2 ≤ length w.bytes.now) × (header_len w.bytes.now ≤ length w.bytes.now) × (length w.bytes.now ≤ GREATEST_PACKET) };
 }
 
 impl<'a> Wire<'a> {
@@ -66,6 +67,18 @@ impl<'a> Wire<'a> {
         ensures { result ≡ field32 8 self.now.bytes }
     {
         BigEndian::read_u32(self.bytes.split_at(8).1)
+    }
+
+    /// How many bytes the whole header has: the fixed part, the contributing sources and the
+    /// extension (RFC 3550, sections 5.1 and 5.3.1). The payload stands behind them.
+    pub fn header_len(&self) -> u32
+        ensures value { result ≡ header_len self.now.bytes }
+        ensures inside { result ≤ length self.now.bytes }
+    {
+        let bytes = self.bytes;
+        let sources_end = LEAST_PACKET as usize + 4 * (bytes[0] as usize % 16);
+        let words = BigEndian::read_u16(bytes.split_at(sources_end + 2).1);
+        (sources_end + 4 + 4 * words as usize) as u32
     }
 
     /// The sequence number of the fixed header (RFC 3550, section 5.1).

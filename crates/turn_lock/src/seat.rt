@@ -5,7 +5,7 @@ use gcc_units::Sequence;
 use std::marker::Model;
 
 /// The most seats of a turn.
-pub const SEATS: u32 = 16;
+pub const SEATS: u32 = 64;
 
 /// A caller's right to call. It has a number, and it knows the history as it last saw it and its
 /// own entries in that. What it knows is known to contracts alone.

@@ -40,3 +40,16 @@ pub struct Report {
     pub feedback: u8,
     pub statuses: StatusList,
 }
+
+impl Duplicate for Report {
+    fn duplicate(&self, alloc: Global) -> Result<Report, NoMemory> {
+        Ok(Report {
+            sender: self.sender,
+            media: self.media,
+            base: self.base,
+            reference: self.reference,
+            feedback: self.feedback,
+            statuses: self.statuses.copy(alloc)?,
+        })
+    }
+}

@@ -9,7 +9,7 @@ use crate::fault::{Bad, NO_VERB};
 use crate::fields::{actor, class, cut, hex_bytes, moment};
 use crate::trace::{Action, Line};
 use gcc_units::MOST_CHECK_BYTES;
-use send_core::Call;
+use send_core::{BoxedChange, Call};
 use std::alloc::Global;
 
 /// `ACTOR AT CLASS HEX`
@@ -66,6 +66,9 @@ fn configure(alloc: Global, actors: u32, rest: &[u8]) -> Result<Line, Bad>
     let (second, rest) = cut(rest);
     let at = moment(second)?;
     let change = change(alloc, rest)?;
+    let Ok(change) = BoxedChange::new(alloc, change) else {
+        return Err(Bad::Memory);
+    };
     let action = Action::Ask(Call::Configure { at, change });
     Ok(Line { actor, action })
 }

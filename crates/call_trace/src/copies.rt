@@ -3,7 +3,7 @@
 ghost use Rattle.std.specs.Prelude.{◌≡◌, IfOk};
 
 use gcc_units::NoMemory;
-use send_core::{Call, Change};
+use send_core::{BoxedChange, Call, Change};
 use std::alloc::Global;
 
 /// The same change once more.
@@ -46,7 +46,7 @@ pub fn copy_call(alloc: Global, call: &Call) -> Result<Call, NoMemory>
             Ok(Call::Report { at: *at, bytes })
         }
         Call::Configure { at, change } => {
-            let change = copy_change(alloc, change)?;
+            let change = BoxedChange::new(alloc, copy_change(alloc, change.get())?)?;
             Ok(Call::Configure { at: *at, change })
         }
     }

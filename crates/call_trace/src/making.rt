@@ -16,7 +16,7 @@ use allocator::{Stream, StreamList};
 use gcc_units::{Class, IdList, MOST_ACTORS, MOST_LINES, MOST_STATUSES, Moment, NoMemory};
 use rand_core::SeedableRng;
 use rand_xoshiro::Xoshiro256PlusPlus;
-use send_core::{ApplyFault, Call, Change, Entry, Journal, Reply, Sender};
+use send_core::{ApplyFault, BoxedChange, Call, Change, Entry, Journal, Reply, Sender};
 use std::alloc::Global;
 
 /// A sender in use, and what is counted of its calls.
@@ -165,7 +165,7 @@ impl Maker {
         if t != 0 {
             return Ok(());
         }
-        let change = opening(alloc)?;
+        let change = BoxedChange::new(alloc, opening(alloc)?)?;
         self.ask(
             alloc,
             Call::Configure {

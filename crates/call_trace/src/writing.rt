@@ -115,7 +115,9 @@ fn line_text(alloc: Global, line: &Line) -> Result<String, NoMemory>
         }
         Action::Ask(Call::Pace { at }) => pace_text(alloc, actor, *at),
         Action::Ask(Call::Report { at, bytes }) => report_text(alloc, actor, *at, bytes),
-        Action::Ask(Call::Configure { at, change }) => configure_text(alloc, actor, *at, change),
+        Action::Ask(Call::Configure { at, change }) => {
+            configure_text(alloc, actor, *at, change.get())
+        }
         Action::Look => glance_text(alloc, actor),
     }
 }

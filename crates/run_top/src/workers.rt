@@ -11,7 +11,7 @@ use call_trace::{Action, Line};
 use gcc_units::NoMemory;
 use reply_text::{Seen, SeenList};
 use run_io::Gate;
-use send_core::{ApplyFault, Call, Change};
+use send_core::{ApplyFault, BoxedChange, Call, Change};
 use shared_sender::{SenderSeat, Shared};
 use std::alloc::Global;
 use std::sync::Wait;
@@ -85,7 +85,7 @@ fn copied(alloc: Global, call: &Call) -> Result<Call, NoMemory>
         }),
         Call::Configure { at, change } => Ok(Call::Configure {
             at: *at,
-            change: copied_change(alloc, change)?,
+            change: BoxedChange::new(alloc, copied_change(alloc, change.get())?)?,
         }),
     }
 }

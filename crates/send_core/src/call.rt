@@ -1,5 +1,6 @@
 //! What is asked of a sender, and what it answers.
 
+use crate::boxed_change::BoxedChange;
 use allocator::StreamList;
 use gcc_units::{Bytes, Class, IdList, Judged, Moment, Rate, ShareList, Signal};
 use pacer::SentList;
@@ -17,7 +18,7 @@ pub enum Call {
     /// (draft-holmer-rmcat-transport-wide-cc-extensions-01, section 3.1).
     Report { at: u64, bytes: Bytes },
     /// Settings are changed.
-    Configure { at: u64, change: Change },
+    Configure { at: u64, change: BoxedChange },
 }
 
 /// A change of the settings. What it does not name stays.

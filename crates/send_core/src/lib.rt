@@ -3,6 +3,7 @@
 #![tactic(auto)]
 
 mod bounds;
+mod boxed_change;
 mod call;
 mod checks;
 mod copies;
@@ -16,6 +17,7 @@ mod settings;
 mod stamping;
 mod telling;
 
+pub use boxed_change::BoxedChange;
 pub use call::{Answer, ApplyFault, Call, Cause, Change, Entry, Rates, Reply};
 pub use journal::Journal;
 pub use laws::refused_calls_change_nothing_else;

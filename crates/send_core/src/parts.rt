@@ -403,7 +403,7 @@ impl Parts {
             }
             Call::Pace { at } => self.pace_within(alloc, *at, most),
             Call::Report { at, bytes } => self.report(alloc, *at, bytes),
-            Call::Configure { at, change } => self.configure(alloc, *at, change),
+            Call::Configure { at, change } => self.configure(alloc, *at, change.get()),
         }
     }
 }

@@ -43,7 +43,7 @@ fn with_entry(so_far: Planned, id: u32, entry: &Entry) -> Planned
 {
     match (&entry.call, &entry.reply) {
         (Call::Configure { change, .. }, Reply::Configured { .. }) => {
-            with_change(so_far, id, change)
+            with_change(so_far, id, change.get())
         }
         _ => so_far,
     }

@@ -4,7 +4,7 @@
 
 use crate::{ClusterSpan, PacketCounts, Span, balance, span_cluster, span_media, span_padding};
 use gcc_units::{Bytes, Class, Level, NoMemory, Sequence};
-use send_core::{ApplyFault, Call, Change, Sender};
+use send_core::{ApplyFault, BoxedChange, Call, Change, Sender};
 use std::alloc::Global;
 use std::test::Fail;
 
@@ -120,7 +120,7 @@ fn call_of(alloc: Global, line: &str) -> Result<Call, NoMemory> {
             Call::Report { at, bytes }
         }
         "C" => {
-            let change = change_of(alloc, line);
+            let change = BoxedChange::new(alloc, change_of(alloc, line))?;
             Call::Configure { at, change }
         }
         _ => Call::Pace { at },

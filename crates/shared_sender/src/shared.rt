@@ -9,7 +9,7 @@ ghost use Rattle.shared_sender.specs.Served.{answers_of, journal_of, HasWires, R
 
 use crate::held::Held;
 use gcc_units::{BOARD_LENGTHS, Bytes, Class, NoMemory, Rate};
-use send_core::{Answer, ApplyFault, Call, Change, Reply, Sender};
+use send_core::{Answer, ApplyFault, BoxedChange, Call, Reply, Sender};
 use std::alloc::Global;
 use std::marker::Model;
 use std::sync::Wait;
@@ -183,8 +183,8 @@ impl Shared {
         alloc: Global,
         seat: &mut SenderSeat,
         at: u64,
-        change: Change,
-    ) -> Result<Reply, (ApplyFault, Change)>
+        change: BoxedChange,
+    ) -> Result<Reply, (ApplyFault, BoxedChange)>
         requires of { seat.old.of ≡ self.now.of }
         ensures seat { (seat.new.of ≡ seat.old.of) × (seat.new.number ≡ seat.old.number) }
         ensures seen { BeginsWith seat.new.seen seat.old.seen }

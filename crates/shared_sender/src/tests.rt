@@ -3,7 +3,7 @@ ghost use Rattle.turn_lock.specs.Seats.{new_seat};
 
 use crate::{Glance, SenderSeat, SenderSeats, Shared};
 use gcc_units::{Bytes, Class, Sequence};
-use send_core::{Change, Rates, Reply, Sender};
+use send_core::{BoxedChange, Change, Rates, Reply, Sender};
 use std::alloc::Global;
 use std::sync::Wait;
 use std::test::Fail;
@@ -237,8 +237,8 @@ fn a_report_credits_what_left(rt: HostRuntime) -> Result<(), Fail> {
 }
 
 /// The change of nothing but the greatest estimate.
-fn lowered(alloc: Global, max: u64) -> Change {
-    Change {
+fn lowered(alloc: Global, max: u64) -> Result<BoxedChange, NoMemory> {
+    let change = Change {
         streams: Sequence::new(alloc),
         removed: Sequence::new(alloc),
         start: None,
@@ -250,7 +250,8 @@ fn lowered(alloc: Global, max: u64) -> Change {
         paced_audio: None,
         extension_id: None,
         probe: None,
-    }
+    };
+    BoxedChange::new(alloc, change)
 }
 
 fn rates(reply: &Reply) -> Option<Rates> {
@@ -269,7 +270,7 @@ fn a_change_is_seen_by_a_glance(rt: HostRuntime) -> Result<(), Fail> {
         mut second,
         room: _room,
     } = opened(alloc)?;
-    let Ok(reply) = shared.configure(&rt, alloc, &mut first, 0, lowered(alloc, 200_000)) else {
+    let Ok(reply) = shared.configure(&rt, alloc, &mut first, 0, lowered(alloc, 200_000)?) else {
         return Err("there is memory".into());
     };
     assert_eq!(rt;

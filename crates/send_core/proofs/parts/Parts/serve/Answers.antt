@@ -1,5 +1,7 @@
 use Rattle.std.proofs.Common.{◌≡◌, List, IfOk, sym, ◌∙◌, ap, subst}
 use Rattle.send_core.specs.declared.call.Call.{Call}
+use Rattle.send_core.specs.declared.call.Call.TheVariants.{Configure}
+use Rattle.send_core.specs.declared.call.Change.{Change}
 use Rattle.send_core.specs.declared.call.Entry.{Entry}
 use Rattle.send_core.specs.declared.call.Reply.{Reply}
 use Rattle.send_core.specs.declared.copies.Rooms.{Rooms}
@@ -16,4 +18,4 @@ returns-in-Pace-clause-answer c =
 
 pub returns-in-Configure-clause-answer : goal.returns-in-Configure-clause-answer
 returns-in-Configure-clause-answer c =
-    subst (λ (k : Call). IfOk c.configure.result (λ (r : Reply × Rooms). (h : List Entry) → StandsFor c.args.self.now h → r.0 ≡ reply h k)) (sym c.in-Configure.is) c.configure.ensures.answer
+    subst (λ (k : Call). IfOk c.configure.result (λ (r : Reply × Rooms). (h : List Entry) → StandsFor c.args.self.now h → r.0 ≡ reply h k)) (ap (λ (x : Change). Configure c.in-Configure.at x) c.get.ensures ∙ sym c.in-Configure.is) c.configure.ensures.answer

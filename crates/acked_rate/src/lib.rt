@@ -1,8 +1,11 @@
 //! The received rate: what arrived at the receiver in the half second before the newest arrival
-//! (draft-ietf-rmcat-gcc-02, section 5.5, in outline).
+//! (draft-ietf-rmcat-gcc-02, section 5.5, in outline; `AcknowledgedBitrateEstimator` of libwebrtc).
 //!
-//! Arrivals are quarter-milliseconds of the receiver's clock, sizes bytes, rates bit/s. The length of the
-//! window and the cut are this project's own rules.
+//! The rule: 16 times the bytes that arrived less than 500 ms before the newest arrival, and none before the
+//! credits cover that time. Arrivals are quarter-milliseconds of the receiver's clock, sizes bytes, rates
+//! bit/s. The length of the window and the cut are this project's own rules.
+//!
+//! Those above use that [`Window::rate`] is the rate of all credits so far, however few are kept.
 #![tactic(auto)]
 
 ghost use Rattle.std.specs.Prelude.{◌≡◌, ◌≤◌, [], ◌∷◌, ◌++◌, List, Option, IfOk, IfSome};

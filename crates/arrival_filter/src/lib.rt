@@ -1,9 +1,12 @@
 //! The arrival filter: how much the delay on the path grows from one packet group to the next
-//! (draft-ietf-rmcat-gcc-02, section 5.3, in outline).
+//! (draft-ietf-rmcat-gcc-02, section 5.3, in outline; `OveruseEstimator` of libwebrtc, of older versions).
 //!
-//! A Kalman filter in whole numbers. Q16 means units of 1/65536 millisecond, and for a variance units of
-//! 1/65536 square millisecond. The constants, the roundings, the cut of the residual and the factor for
-//! each millisecond are this project's own rules.
+//! The rule: a Kalman filter of one mean, whose noise is measured from what the mean leaves over. It works in
+//! whole numbers: Q16 means units of 1/65536 millisecond, and for a variance units of 1/65536 square
+//! millisecond. The constants, the roundings, the cut of the residual and the factor for each millisecond are
+//! this project's own rules.
+//!
+//! Those above use that the state is the fold of the rule over all samples, and its ranges.
 #![tactic(auto)]
 
 ghost use Rattle.std.specs.Prelude.{◌≡◌, ◌+ℤ◌, ◌≤ℤ◌, pos, neg_ℤ, ◌+◌, ◌*◌, ◌^◌, ◌<◌, ◌≤◌, [], ◌∷◌, ◌++◌, List, unsigned_abs};

@@ -1,11 +1,12 @@
 //! The estimator: how much the path takes, by the feedback reports so far
-//! (draft-ietf-rmcat-gcc-02, sections 5 and 6, in outline).
+//! (draft-ietf-rmcat-gcc-02, sections 5 and 6, in outline; `GoogCcNetworkController` of libwebrtc).
 //!
 //! An [`Estimator`] has two estimates in bit/s, that of delay control and that of loss control; the target is
 //! the lesser. Each report moves them: its credits go through packet groups, arrival filter and overuse
 //! detector, to the window of the received rate, and to the probe clusters. Moments are microseconds.
 //!
 //! The order within a report, the signal of a report and its round-trip time are this project's own rules.
+//! Those above use that signal, rates and target are the fold of the rules over all judged reports.
 #![tactic(auto)]
 
 ghost use Rattle.std.specs.Prelude.{◌≡◌, ◌≤◌, ◌+◌, ℕ, ◌++◌, List, All, IfOk, length, map, min};

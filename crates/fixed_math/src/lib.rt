@@ -2,6 +2,9 @@
 //!
 //! Each quotient is rounded down, towards minus infinity.
 //! The formats, the roundings and the order of the products in a power are this project's own rules.
+//!
+//! Those above use that each result is an exact floor, a root the greatest whole number whose square fits,
+//! and a power that of halved exponents.
 #![tactic(auto)]
 
 ghost use Rattle.std.specs.Prelude.{◌≡◌, ℕ, pos, ◌*ℤ◌, ◌<ℤ◌, ◌*◌, ◌≤◌, FitsSigned};

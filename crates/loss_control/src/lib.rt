@@ -1,8 +1,11 @@
 //! Loss control: an estimate that falls where reports tell of many losses, and rises where they tell of few
-//! (draft-ietf-rmcat-gcc-02, section 6, in outline).
+//! (draft-ietf-rmcat-gcc-02, section 6, in outline; `SendSideBandwidthEstimation` of libwebrtc).
 //!
-//! Rates are bit/s, moments microseconds. When counts are judged, the thresholds and the roundings are this
-//! project's own rules.
+//! The rule: above a tenth lost the estimate falls by half of the lost share, below a fiftieth it rises by a
+//! twentieth, else it stays. Rates are bit/s, moments microseconds. When counts are judged, the thresholds and
+//! the roundings are this project's own rules.
+//!
+//! Those above use that the state is the fold of the rule over all reports.
 #![tactic(auto)]
 
 ghost use Rattle.std.specs.Prelude.{◌≡◌, ◌≤◌, [], ◌∷◌, ◌++◌, List, max, unwrap_or};

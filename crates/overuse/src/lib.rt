@@ -1,8 +1,11 @@
 //! The overuse detector: what the estimate of the arrival filter says of the queue on the path
-//! (draft-ietf-rmcat-gcc-02, section 5.4, in outline).
+//! (draft-ietf-rmcat-gcc-02, section 5.4, in outline; `OveruseDetector` of libwebrtc).
 //!
-//! Q16 means units of 1/65536 millisecond. The constants, the roundings, the cuts and the order of the steps
-//! are this project's own rules.
+//! The rule: a mean above a threshold for 10 ms, and not falling, is overuse, one below its negative underuse;
+//! the threshold follows the mean, faster upwards than downwards. Q16 means units of 1/65536 millisecond. The
+//! constants, the roundings, the cuts and the order of the steps are this project's own rules.
+//!
+//! Those above use that signal and state are the fold of the rule over all samples.
 #![tactic(auto)]
 
 ghost use Rattle.std.specs.Prelude.{◌≡◌, ◌≤ℤ◌, pos, neg_ℤ, ◌+◌, ◌^◌, ◌<◌, [], ◌∷◌, ◌++◌, List};

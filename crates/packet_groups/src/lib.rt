@@ -1,9 +1,12 @@
 //! Packet groups: credits of packets that were sent or that arrived in one burst are taken together, and
 //! neighbouring groups give the samples of the arrival filter (draft-ietf-rmcat-gcc-02, section 5.2, in
-//! outline).
+//! outline; `InterArrivalDelta` of libwebrtc).
 //!
-//! Departures are microseconds, arrivals quarter-milliseconds. The lengths, the burst condition and the cut
-//! of a sample's delay are this project's own rules.
+//! The rule: a credit joins the last group where it was sent at most 5 ms after the group's first packet, or
+//! where it arrived faster than it was sent. Departures are microseconds, arrivals quarter-milliseconds. The
+//! lengths, the burst condition and the cut of a sample's delay are this project's own rules.
+//!
+//! Those above use that the samples are those of the one division of all credits.
 #![tactic(auto)]
 
 ghost use Rattle.std.specs.Prelude.{◌≡◌, ◌≤ℤ◌, neg_ℤ, [], ◌∷◌, ◌++◌, List, IfSome};

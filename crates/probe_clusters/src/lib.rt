@@ -1,9 +1,12 @@
 //! Probe clusters: bursts of packets that are sent at a planned rate, and the rate of the path that
-//! their credits show (in outline as libwebrtc's prober and probe estimator do it; that clusters go one
-//! after another by their ids is this project's own rule).
+//! their credits show (`BitrateProber` and `ProbeBitrateEstimator` of libwebrtc, in outline).
 //!
-//! Rates are bit/s, moments microseconds, arrivals quarter-milliseconds. A cluster's id is the count
-//! of clusters that were planned before it.
+//! The rule: a cluster goes out at its rate until it has five packets and 15 ms worth of bytes, and its result
+//! is the lesser of the rates at which it was sent and at which it arrived. That clusters go one after another
+//! by their ids is this project's own rule. Rates are bit/s, moments microseconds, arrivals
+//! quarter-milliseconds. A cluster's id is the count of clusters that were planned before it.
+//!
+//! Those above use which cluster is due, and that each result is taken once, from its credits alone.
 #![tactic(auto)]
 
 mod cluster;

@@ -1,10 +1,12 @@
-//! The rate control of the delay-based estimate (draft-ietf-rmcat-gcc-02, section 5.5, in outline).
+//! The rate control of the delay-based estimate (draft-ietf-rmcat-gcc-02, section 5.5, in outline;
+//! `AimdRateControl` of libwebrtc, with its `LinkCapacityEstimator`).
 //!
-//! A [`Control`] has an estimate in bit/s. The signal of the overuse detector moves it: `Over` lowers it,
-//! `Under` holds it, and `Normal` raises it, quickly while the capacity of the path is unknown, and slowly
-//! near the capacity that earlier decreases showed. Moments and times are microseconds.
+//! The rule: `Over` lowers the estimate to 85 % of the received rate, `Under` holds it, and `Normal` raises it,
+//! by 8 % a second while the capacity of the path is unknown, and slowly near the capacity that earlier
+//! decreases showed. A [`Control`] has an estimate in bit/s; moments and times are microseconds. The
+//! constants, the roundings, the cuts and the order within a step are this project's own rules.
 //!
-//! The constants, the roundings, the cuts and the order within a step are this project's own rules.
+//! Those above use that the state is the fold of the rule over all steps, settings and results.
 #![tactic(auto)]
 
 ghost use Rattle.std.specs.Prelude.{◌≡◌, ◌≤◌};

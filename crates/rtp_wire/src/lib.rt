@@ -4,6 +4,9 @@
 //! which one element holds the number
 //! (draft-holmer-rmcat-transport-wide-cc-extensions-01, section 2). Lists of packets are stamped
 //! with the numbers that they leave with.
+//!
+//! Those above use that reading gives the place of the number or the first check that fails, and that a stamp
+//! changes two bytes and nothing else.
 #![tactic(auto)]
 
 mod laws;

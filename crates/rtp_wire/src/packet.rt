@@ -1,4 +1,27 @@
 //! Reading a packet.
+//!
+//! The fixed header (RFC 3550, section 5.1), and behind it an extension in the one-byte form (RFC 8285,
+//! section 4.2); V is the version, P the padding bit, X the extension bit, CC the count of contributing
+//! sources, M the marker:
+//!
+//! ```text
+//!  0                   1                   2                   3
+//!  0 1 2 3 4 5 6 7 8 9 0 1 2 3 4 5 6 7 8 9 0 1 2 3 4 5 6 7 8 9 0 1
+//! +---+-+-+-------+-+-------------+-------------------------------+
+//! | V |P|X|  CC   |M|payload type |        sequence number        |
+//! +---+-+-+-------+-+-------------+-------------------------------+
+//! |                           timestamp                           |
+//! +---------------------------------------------------------------+
+//! |                             SSRC                              |
+//! +---------------------------------------------------------------+
+//! |               contributing sources, CC of them                |
+//! +-------------------------------+-------------------------------+
+//! |         profile 0xBEDE        |        length in words        |
+//! +-------+-------+---------------+---------------+---------------+
+//! |  ID   |length |         number, big-endian    |     ...       |
+//! |       |  - 1  |                               |               |
+//! +-------+-------+-------------------------------+---------------+
+//! ```
 
 ghost use Rattle.std.specs.Prelude.{◌≡◌, ◌+◌, ◌≤◌, ◌<◌, Ok, Err, IfOk, IfErr, length};
 ghost use Rattle.rtp_wire.specs.Place.{place_of, walk, field16, field32, header_len};

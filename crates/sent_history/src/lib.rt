@@ -1,9 +1,13 @@
 //! The sent packets and what feedback reports said of them: transport-wide numbers and exact credit
-//! (draft-holmer-rmcat-transport-wide-cc-extensions-01, section 3.1).
+//! (draft-holmer-rmcat-transport-wide-cc-extensions-01, section 3.1; `TransportFeedbackAdapter` of libwebrtc).
 //!
-//! The last 32,768 packets are kept. Which packet a status names, and how a status is judged, are this
-//! project's own rules. A report names packets by 16 bits only, so a forged or very old one can credit a
-//! newer packet that is outstanding.
+//! The rule: a received status credits its packet where that is outstanding: sent, one of the last 32,768, and
+//! never credited. Which packet a status names, and how a status is judged, are this project's own rules. A
+//! report names packets by 16 bits only, so a forged or very old one can credit a newer packet that is
+//! outstanding.
+//!
+//! Those above use that credit is the definition over all packets and reports, and that no number is credited
+//! twice.
 #![tactic(auto)]
 
 mod history;

@@ -1,5 +1,9 @@
 //! Transport-wide feedback reports
-//! (draft-holmer-rmcat-transport-wide-cc-extensions-01, section 3.1) as bytes.
+//! (draft-holmer-rmcat-transport-wide-cc-extensions-01, section 3.1) as bytes: `rtcp::TransportFeedback` of
+//! libwebrtc.
+//!
+//! Those above use that the reader gives the one report that the bytes spell, or the first check that fails,
+//! and that what is written is the canonical spelling, which reads as the report.
 #![tactic(auto)]
 
 mod fault;

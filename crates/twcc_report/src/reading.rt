@@ -1,4 +1,39 @@
 //! Reading a report, byte by byte.
+//!
+//! The report (draft-holmer-rmcat-transport-wide-cc-extensions-01, section 3.1); V is the version, P the
+//! padding bit:
+//!
+//! ```text
+//!  0                   1                   2                   3
+//!  0 1 2 3 4 5 6 7 8 9 0 1 2 3 4 5 6 7 8 9 0 1 2 3 4 5 6 7 8 9 0 1
+//! +---+-+---------+---------------+-------------------------------+
+//! | V |P| FMT=15  |    PT=205     |        length in words        |
+//! +---+-+---------+---------------+-------------------------------+
+//! |                  SSRC of the report's sender                  |
+//! +---------------------------------------------------------------+
+//! |                       SSRC of the media                       |
+//! +-------------------------------+-------------------------------+
+//! |     base sequence number      |     packet status count       |
+//! +-------------------------------+---------------+---------------+
+//! |                reference time                 | feedback count|
+//! +-------------------------------+---------------+---------------+
+//! |            chunk              |            chunk  ...         |
+//! +-------------------------------+-------------------------------+
+//! |    deltas, of one byte or two each, then the rest  ...        |
+//! +---------------------------------------------------------------+
+//! ```
+//!
+//! A chunk is a run, fourteen symbols of one bit, or seven of two:
+//!
+//! ```text
+//! +-+---+-------------------------+
+//! |0| S |       run length        |
+//! +-+---+-------------------------+
+//! |1|0|   symbols, one bit each   |
+//! +-+-+---------------------------+
+//! |1|1|   symbols, two bits each  |
+//! +-+-+---------------------------+
+//! ```
 
 ghost use Rattle.std.specs.Prelude.{◌≡◌, ℕ, ◌+◌, ◌-◌, ◌*◌, ◌^◌, ◌<◌, ◌≤◌, ◌++◌, List, length, take, vec_len, vec_capacity, Ok, Err, IfOk, IfErr, OnOk};
 ghost use Rattle.twcc_report.specs.Chunks.{symbol_count, symbol_at, symbols_of};

@@ -23,6 +23,3 @@ pub use journal::Journal;
 pub use laws::refused_calls_change_nothing_else;
 pub use sender::Sender;
 pub use settings::START_RATE;
-
-#[cfg(test)]
-mod tests;

@@ -22,8 +22,3 @@ pub use laws::{
 };
 pub use probes::{ClusterSpan, span_cluster};
 pub use spans::{Span, span_media, span_padding};
-
-#[cfg(test)]
-mod table_tests;
-#[cfg(test)]
-mod tests;

@@ -7,6 +7,3 @@ mod shared;
 
 pub use held::Held;
 pub use shared::{Glance, SenderNote, SenderSeat, SenderSeats, Shared};
-
-#[cfg(test)]
-mod tests;

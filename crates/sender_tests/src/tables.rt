@@ -1,7 +1,7 @@
 //! Three histories, and the numbers of the laws on them. Calls and rows are the lines that
 //! tests/span_table/table.py prints.
 
-use crate::tests::agreeing;
+use crate::laws::agreeing;
 use std::test::Fail;
 
 #[test]

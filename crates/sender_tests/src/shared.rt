@@ -1,9 +1,9 @@
 ghost use Rattle.std.specs.Prelude.{◌≡◌, ◌<◌, ◌≤◌, [], length, IfOk};
 ghost use Rattle.turn_lock.specs.Seats.{new_seat};
 
-use crate::{Glance, SenderSeat, SenderSeats, Shared};
-use gcc_units::{Bytes, Class, Sequence};
+use gcc_units::{Bytes, Class, NoMemory, Sequence};
 use send_core::{BoxedChange, Change, Rates, Reply, Sender};
+use shared_sender::{Glance, SenderSeat, SenderSeats, Shared};
 use std::alloc::Global;
 use std::sync::Wait;
 use std::test::Fail;

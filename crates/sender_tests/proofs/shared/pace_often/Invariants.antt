@@ -1,5 +1,5 @@
 use Rattle.std.proofs.Common.{◌≡◌}
-use Rattle.shared_sender.proofs.tests.pace_often.Given as goal
+use Rattle.sender_tests.proofs.shared.pace_often.Given as goal
 
 abbrev pub invariant-loop-k : goal.invariant-loop-k
 invariant-loop-k g l = record {

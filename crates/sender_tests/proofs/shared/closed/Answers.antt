@@ -2,7 +2,7 @@ use Rattle.std.proofs.Common.{◌≡◌, ℕ, zero, suc, List, [], ◌∷◌, re
 use Rattle.send_core.specs.declared.call.Call.{Call}
 use Rattle.send_core.specs.declared.call.Answer.{Answer}
 use Rattle.turn_lock.specs.Seats.{SeatIs, HasEvery}
-use Rattle.shared_sender.proofs.tests.closed.Goals as goal
+use Rattle.sender_tests.proofs.shared.closed.Goals as goal
 
 every_of_two : (first second : SeatIs Call Answer) → first.number ≡ 0 → second.number ≡ 1 → HasEvery 2 (first ∷ second ∷ [])
 every_of_two first second a b zero below = (first, (0, omega arith, refl), a)

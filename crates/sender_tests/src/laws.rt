@@ -2,9 +2,9 @@
 //! report with its bytes, of a change with its keys. A row is a line too, in the words of
 //! tests/span_table/table.py.
 
-use crate::{ClusterSpan, PacketCounts, Span, balance, span_cluster, span_media, span_padding};
 use gcc_units::{Bytes, Class, Level, NoMemory, Sequence};
 use send_core::{ApplyFault, BoxedChange, Call, Change, Sender};
+use send_laws::{ClusterSpan, PacketCounts, Span, balance, span_cluster, span_media, span_padding};
 use std::alloc::Global;
 use std::test::Fail;
 

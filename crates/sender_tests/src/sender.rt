@@ -2,9 +2,9 @@
 
 ghost use Rattle.std.specs.Prelude.{◌<◌, ◌^◌, length};
 
-use crate::{Answer, ApplyFault, Call, Sender};
 use gcc_units::{Bytes, Class, MOST_ENTRIES, NoMemory};
 use rtp_wire::WireList;
+use send_core::{Answer, ApplyFault, Call, Sender};
 use std::alloc::Global;
 use std::test::Fail;
 

@@ -2,7 +2,7 @@
 
 ghost use Rattle.std.specs.Prelude.{◌≡◌, ◌<◌, ◌≤◌, length};
 ghost use Rattle.std.specs.List.{position_or_len};
-ghost use Rattle.call_trace.specs.Fields.{is_space, is_byte, field, behind, number_of};
+ghost use Rattle.call_trace.specs.Fields.{is_space, is_byte, field, behind, value_after, number_of};
 ghost use Rattle.call_trace.specs.Steps.{Gives};
 ghost use Rattle.call_trace.specs.Reading.{actor_at, moment_at, class_at, hex_at};
 
@@ -38,22 +38,29 @@ pub fn cut(bytes: &[u8]) -> (&[u8], &[u8])
     }
 }
 
+/// The value of decimal digits; `None` where a byte is none, or the value is above 2^64 - 1.
+fn value_of(digits: &[u8]) -> Option<u64>
+    ensures { result ≡ value_after 0 digits.now }
+{
+    let mut value: u64 = 0;
+    for digit in digits {
+        if !digit.is_ascii_digit() {
+            return None;
+        }
+        value = value
+            .checked_mul(10)?
+            .checked_add(u64::from(*digit - b'0'))?;
+    }
+    Some(value)
+}
+
 /// A number in decimal, without sign and without a leading zero.
 pub fn number(text: &[u8]) -> Option<u64>
     ensures { result ≡ number_of text.now }
 {
     match text {
         [] | [b'0', _, ..] => None,
-        _ => {
-            let mut value: u64 = 0;
-            for b in text {
-                if !b.is_ascii_digit() {
-                    return None;
-                }
-                value = value.checked_mul(10)?.checked_add(u64::from(*b - b'0'))?;
-            }
-            Some(value)
-        }
+        _ => value_of(text),
     }
 }
 

@@ -2,6 +2,9 @@
 //!
 //! A line is the bytes before a line feed. The first line is `gcc-trace 1 ACTORS`. Then come lines
 //! of action, then `end`, and nothing behind it. The format is this project's own.
+//!
+//! Those above use that the reader gives the trace that the bytes spell, or the first bad line and in it the
+//! first bad field, and that what is written spells its trace.
 #![tactic(auto)]
 
 mod action;

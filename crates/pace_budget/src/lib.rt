@@ -1,8 +1,11 @@
-//! The level of a pacing budget.
+//! The level of a pacing budget (`IntervalBudget` of libwebrtc).
 //!
-//! A [`Bucket`] fills with time at a rate, up to what a window holds, and packets spend from it.
+//! The rule: a [`Bucket`] fills with time at a rate, up to what a window holds, and packets spend from it.
 //! Contracts see it as its level in micro-bits, which may be below 0: a packet is sent while the
-//! level is above 0, and takes its whole size. A probe is sent at any level, and takes its size too.
+//! level is above 0, and takes its whole size; a probe takes its size whether it is or not. The rule is this
+//! project's own.
+//!
+//! Those above use that the running level is the least over all starts, and the bound on what is spent.
 #![tactic(auto)]
 
 mod bucket;

@@ -1,4 +1,8 @@
 //! The printed history, and the verdict on it.
+//!
+//! One line for each call's reply, one for each glance, and a tail. The format is this project's own. Those
+//! above use that the text is that of the journal and the glances, and that the verdict is legal exactly where
+//! the text is one that a sender could have printed for the trace.
 #![tactic(auto)]
 
 mod check;

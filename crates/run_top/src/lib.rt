@@ -1,5 +1,8 @@
 //! The top call: reads what the words of a command line ask for, serves it, and writes what comes
 //! of it.
+//!
+//! Those above use the clauses of `run`: which words are accepted, what is read and written, and the cause of
+//! each status.
 #![tactic(auto)]
 
 mod checking;

@@ -63,6 +63,21 @@ fn twin_credits(received: &CreditList, room: CreditList) -> CreditList
     copied
 }
 
+/// The same judgement once more, in room that was reserved for its credits.
+fn twin_judged(judged: &Judged, room: CreditList) -> Judged
+    requires settled { judged.now.received ≡ bare judged.now.received.items }
+    requires empty { room.items ≡ [] }
+    requires room { length judged.now.received.items ≤ room.spare }
+    ensures { result ≡ judged.now }
+{
+    Judged {
+        received: twin_credits(&judged.received, room),
+        missing: judged.missing,
+        unknown: judged.unknown,
+        repeated: judged.repeated,
+    }
+}
+
 /// The same shares once more, in room that was reserved.
 fn twin_shares(shares: &ShareList, room: ShareList) -> ShareList
     requires empty { room.items ≡ [] }
@@ -100,12 +115,7 @@ pub fn twin(reply: &Reply, room: Rooms) -> Reply
             shares,
         } => Reply::Credited {
             at: *at,
-            judged: Judged {
-                received: twin_credits(&judged.received, room.received),
-                missing: judged.missing,
-                unknown: judged.unknown,
-                repeated: judged.repeated,
-            },
+            judged: twin_judged(judged, room.received),
             signal: *signal,
             m: *m,
             acked: *acked,

@@ -1,5 +1,11 @@
 //! The media sender: calls come in one after another, and each reply is determined by the history
 //! of the calls before it.
+//!
+//! The rule: `reply` of the history, over packets, paces, reports and changes of the settings; it joins the
+//! crates below, as `RtpTransportControllerSend` of libwebrtc joins its controller and its pacer. The order of
+//! a call's checks and what a refused one leaves are this project's own.
+//!
+//! Those above use that a sender's history grows by just the entry of each call, and is legal.
 #![tactic(auto)]
 
 mod bounds;

@@ -1,5 +1,8 @@
 //! Laws of every legal history of a sender, and calls that answer their numbers for a sender's own
 //! journal.
+//!
+//! Order, numbers, exact credit, the balance of what was sent, and the bounds on media, padding and probes.
+//! Those above use that a sender's journal keeps them, and the numbers of a summary.
 #![tactic(auto)]
 
 mod budget;

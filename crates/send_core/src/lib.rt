@@ -6,6 +6,7 @@ mod bounds;
 mod call;
 mod checks;
 mod copies;
+mod counts;
 mod journal;
 mod laws;
 mod parts;
@@ -16,11 +17,16 @@ mod settings;
 mod stamping;
 mod telling;
 
+pub use bounds::{most_paced, most_sends};
 pub use call::{Answer, ApplyFault, Call, Cause, Change, Entry, Rates, Reply};
+pub use copies::{Rooms, room};
+pub use counts::{MOST_ACCEPTED, MOST_SENT};
 pub use journal::Journal;
 pub use laws::refused_calls_change_nothing_else;
+pub use parts::Parts;
 pub use sender::Sender;
-pub use settings::START_RATE;
+pub use settings::{GREATEST_EXTENSION, LEAST_EXTENSION, START_RATE, Settings};
+pub use stamping::wire_room;
 
 #[cfg(test)]
 mod tests;

@@ -1,16 +1,16 @@
 -- What was judged may go to the estimator, and the reply to a report.
-use Rattle.std.proofs.Common.{◌≡◌, ℕ, suc, ℤ, ◌+◌, ◌*◌, ◌<◌, ◌≤◌, ◌||◌, Bool, true, false, Option, None, Some, Ok, IfSome, List, [], ◌∷◌, ◌++◌, length, map, max, All, slice_get, get_or, cond, le-ltb, append_assoc, refl, sym, ◌∙◌, ap, subst, arith}
+use Rattle.std.proofs.Common.{◌≡◌, ℕ, suc, ℤ, ◌+◌, ◌<◌, ◌≤◌, ◌||◌, Bool, true, false, Option, None, Some, Ok, IfSome, List, [], ◌∷◌, ◌++◌, length, map, max, All, slice_get, get_or, cond, le-ltb, append_assoc, refl, sym, ◌∙◌, ap, subst, arith}
 use Rattle.std.proofs.lemmas.List.{append-nil}
 use Rattle.std.proofs.lemmas.List.Elements.{All-weaker, All-nil, All-cons}
 use Rattle.std.proofs.lemmas.Option.{slice_get_within, slice_get-get_or}
-use Rattle.gcc_units.specs.declared.limits.TheConstants.{GREATEST_MOMENT, MOST_ENTRIES, MOST_SENDS, MOST_STATUSES}
+use Rattle.gcc_units.specs.declared.limits.TheConstants.{GREATEST_MOMENT, MOST_REPORTS, MOST_SENDS, MOST_STATUSES}
 use Rattle.gcc_units.specs.declared.shared_types.Credit.{Credit}
 use Rattle.gcc_units.specs.declared.shared_types.Judged.{Judged}
 use Rattle.twcc_report.specs.Spelling.{Feedback}
 use Rattle.twcc_report.specs.Reading.{read_of}
 use Rattle.sent_history.specs.declared.slot.Outgoing.{Outgoing}
 use Rattle.sent_history.specs.Balance.{HasFewStatuses}
-use Rattle.sent_history.specs.Events.{Event, reported, packets}
+use Rattle.sent_history.specs.Events.{Event, reported, packets, reports}
 use Rattle.sent_history.specs.Crediting.{told, judged, IsOfPacket, ArrivesInRange}
 use Rattle.sent_history.specs.Kept as history_kept
 use Rattle.probe_clusters.specs.declared.cluster.Cluster.{Cluster}
@@ -44,7 +44,8 @@ use Rattle.send_core.specs.Estimates.{est, rates_of}
 use Rattle.send_core.specs.Outcomes.{TakesJudged, Credits}
 use Rattle.send_core.specs.Reply.{reply, credited}
 use Rattle.send_core.specs.Reply as replies
-use Rattle.send_core.specs.Stands.{IsPlanned, IsOutgoing, StandsFor, Steps, pacing_for}
+use Rattle.send_core.specs.declared.counts.TheConstants.{MOST_SENT}
+use Rattle.send_core.specs.Stands.{IsPlanned, IsOutgoing, MayGrow, StandsFor, Steps, pacing_for}
 use Rattle.send_core.proofs.StepsMade.{later-in_time}
 
 -- ---- what is known of each credit
@@ -84,18 +85,19 @@ planned-is planned cs (Some id) e h = subst (λ n. id < n) e h
 
 -- ---- what was judged may go to the estimator
 
-pub judged-taken : (h : List Entry) (p x : Parts) (moment count : ℕ) (verdict : Judged) (hist : history_kept.Kept) → StandsFor p h → length h < MOST_ENTRIES
+pub judged-taken : (h : List Entry) (p x : Parts) (moment count : ℕ) (verdict : Judged) (hist : history_kept.Kept) → StandsFor p h → MayGrow h
     → x ≡ record p { pacer = advanced p.pacer moment; history = hist } → p.pacer.moment ≤ moment
     → length verdict.received.items + verdict.missing + verdict.unknown + verdict.repeated ≡ count → count ≤ MOST_STATUSES
     → All (IsOfPacket (packets (events h))) verdict.received.items → All ArrivesInRange verdict.received.items
     → TakesJudged x verdict
-judged-taken h p x moment count verdict hist s short moves late sum few of arrives = rw moves (
+judged-taken h p x moment count verdict hist s grows moves late sum few of arrives = rw moves (
     let received : List Credit = verdict.received.items in
     let facts : All (IsSound (now h) (length (rates (cluster_deeds h)))) received = sound-all (now h) (length (rates (cluster_deeds h))) (packets (events h)) received s.laws.outgoing of arrives in
     let on_time : now h ≤ moment = omega (arith, s.clock) in
     let credits_few : length (est h).credits ≤ length (sent h) = s.laws.few_credits in
-    let sent_few : length (sent h) ≤ MOST_SENDS * length h = s.laws.few in
-    let reports_few : (est h).reports ≤ length h = s.laws.judged in
+    let sent_few : length (sent h) + MOST_SENDS ≤ MOST_SENT = grows.few_sent in
+    let reports_few : (est h).reports ≤ length (reports (events h)) = s.laws.judged in
+    let judged_few : length (reports (events h)) < MOST_REPORTS = grows.few_judged in
     let many : length p.clusters.items ≡ length (rates (cluster_deeds h)) = ap length s.clusters.are ∙ length-planned (cluster_deeds h) in
     record {
       received = omega arith;

@@ -205,7 +205,7 @@ pub record Adds (h : List Entry) (call : Call) (given : Reply) : Type 0 where
   pub within : IsWithin (length (sent_by given)) (length (credits_by given)) (deeds_by (started h) (cluster_deeds h) call given)
   pub credits : (est_by (settings h) (cluster_deeds h) (est h) call given).credits ≡ (est h).credits ++ credits_by given
   pub credited : (account (events h ++ events_by call given)).credited ≡ (account (events h)).credited ++ map (λ (c : Credit). c.number) (credits_by given)
-  pub judged : (est_by (settings h) (cluster_deeds h) (est h) call given).reports ≤ (est h).reports + 1
+  pub judged : (est_by (settings h) (cluster_deeds h) (est h) call given).reports ≤ (est h).reports + length (reports (events_by call given))
   pub until : IsUntil (later (now h) call) (est_by (settings h) (cluster_deeds h) (est h) call given)
 
 -- a call that changes nothing but the moment and what follows
@@ -335,7 +335,7 @@ adds-credited h at bytes report laws is =
       within = within-noted received (found (cluster_deeds h) received) (λ k d l. (of_packets k d l).size);
       credits = refl;
       credited = rw is (reported_credited (events h) report);
-      judged = omega arith;
+      judged = rw is (omega arith);
       until = until-judged (now h) moment (est h) received (told (judged (events h) report)).missing (settings h).bounds (found (cluster_deeds h) received) laws.until later_by
           (λ k d l. (let by = of_packets k d l in omega (arith, by.sent, later_by)));
     }
@@ -548,7 +548,7 @@ laws_after h e laws adds more =
       last = last-by (now after) 0 (packets (events after)) (omega arith) (λ k d l. (outgoing k d l).sent);
       within = rw (gone, credits, deeds) (within-append (length (sent h)) (length (sent_by e.reply)) (length (est h).credits) (length (credits_by e.reply)) (cluster_deeds h) _ laws.within adds.within);
       few_credits = omega (arith, more.credited, credited_few (events after) more.few_statuses, number);
-      judged = omega (arith, longer, ap (λ (x : Est). x.reports) estimates, laws.judged, adds.judged);
+      judged = omega (arith, ap (length {A = Feedback}) new_reports, length-append (reports (events h)) (reports (events_by e.call e.reply)), ap (λ (x : Est). x.reports) estimates, laws.judged, adds.judged);
       until = rw (moment, estimates) adds.until;
     }
 

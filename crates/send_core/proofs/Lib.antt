@@ -18,3 +18,4 @@ pub mod Applied
 pub mod Refusing
 pub mod FewSends
 pub mod FewCredits
+pub mod FewCalls

@@ -1,8 +1,8 @@
 -- How a pace begins, and what it does to the parts.
-use Rattle.std.proofs.Common.{◌≡◌, ℕ, ℤ, pos, neg_ℤ, ◌-◌, ◌*◌, ◌<◌, ◌≤◌, ◌||◌, Bool, true, false, List, ◌++◌, length, map, max, le-ltb, refl, sym, ◌∙◌, ap, subst, arith}
+use Rattle.std.proofs.Common.{◌≡◌, ℕ, ◌+◌, ℤ, pos, neg_ℤ, ◌-◌, ◌*◌, ◌≤◌, ◌||◌, Bool, true, false, List, ◌++◌, length, map, max, le-ltb, refl, sym, ◌∙◌, ap, subst, arith}
 use Rattle.std.proofs.lemmas.List.{append-nil}
 use Rattle.gcc_units.specs.Listed.{Listed, bare}
-use Rattle.gcc_units.specs.declared.limits.TheConstants.{GREATEST_MOMENT, MOST_SENDS, MOST_ENTRIES}
+use Rattle.gcc_units.specs.declared.limits.TheConstants.{GREATEST_MOMENT, MOST_SENDS}
 use Rattle.pace_budget.specs.Level.{Advance}
 use Rattle.pace_budget.specs.Steps.{step, level-step}
 use Rattle.pace_queues.specs.declared.ticket.Ticket.{Ticket}
@@ -29,7 +29,8 @@ use Rattle.send_core.specs.Reports.{events, added_of, cluster_deeds}
 use Rattle.send_core.specs.Levels.{rate, window, padding_rate, passing, padding_passing, level_at, padding_at, floor, padding, deeds}
 use Rattle.send_core.specs.Levels as levels
 use Rattle.send_core.specs.Reply.{reply, terms_at, standing_at}
-use Rattle.send_core.specs.Stands.{StandsFor, Steps, pacing_for}
+use Rattle.send_core.specs.declared.counts.TheConstants.{MOST_SENT}
+use Rattle.send_core.specs.Stands.{MayGrow, StandsFor, Steps, pacing_for}
 use Rattle.send_core.specs.Recording.{TakesSent}
 use Rattle.send_core.proofs.Lowering.{lowered-later}
 use Rattle.send_core.proofs.Recorded.{reports-added}
@@ -96,15 +97,15 @@ paced-answer h p x at number moment out given s early moves counted runs here se
 
 -- ---- what it asks of the sent history
 
-pub takes-sent : (h : List Entry) (p : Parts) (moment more : ℕ) → StandsFor p h → length h < MOST_ENTRIES → more ≤ MOST_SENDS → p.pacer.moment ≤ moment → TakesSent p.history moment more
-takes-sent h p moment more s short few late =
+pub takes-sent : (h : List Entry) (p : Parts) (moment more : ℕ) → StandsFor p h → MayGrow h → more ≤ MOST_SENDS → p.pacer.moment ≤ moment → TakesSent p.history moment more
+takes-sent h p moment more s grows few late =
     let number : length (packets (events h)) ≡ length (sent h) = s.laws.number in
-    let sent_few : length (sent h) ≤ MOST_SENDS * length h = s.laws.few in
+    let sent_few : length (sent h) + MOST_SENDS ≤ MOST_SENT = grows.few_sent in
     record {
       events = events h;
       stands = s.packets;
       few = omega arith;
-      few_reports = omega (arith, s.laws.few_reports);
+      few_reports = omega (arith, grows.few_judged);
       order = omega (arith, s.laws.last, s.clock);
     }
 

@@ -116,6 +116,10 @@ reply history call =
     else reply_in_time history (later (now history) call) call
 
 -- each reply is the one that the entries before it determine
+abbrev pub IsAnswered : List Entry → Type 0
+IsAnswered history = (n : ℕ) (e : Entry) → slice_get history n ≡ Some e → e.reply ≡ reply (take n history) e.call
+
+-- and there are no more entries than a journal may hold
 pub record IsLegal (history : List Entry) : Type 0 where
   pub short : length history ≤ MOST_ENTRIES
-  pub each : (n : ℕ) (e : Entry) → slice_get history n ≡ Some e → e.reply ≡ reply (take n history) e.call
+  pub each : IsAnswered history

@@ -1,6 +1,6 @@
 -- The parts of a sender stand for its history, and what a call does to each of them.
 use Rattle.std.specs.Prelude.{◌≡◌, ℕ, ℤ, neg_ℤ, pos, ◌+◌, ◌-◌, ◌*◌, ◌<◌, ◌≤◌, ◌||◌, Option, None, Some, List, ◌++◌, length, min, fold, All, Ok}
-use Rattle.gcc_units.specs.declared.limits.TheConstants.{GREATEST_MOMENT, GREATEST_RATE, GREATEST_PACKET, MOST_SENDS, MOST_ENTRIES}
+use Rattle.gcc_units.specs.declared.limits.TheConstants.{GREATEST_MOMENT, GREATEST_RATE, GREATEST_PACKET, MOST_SENDS, MOST_REPORTS}
 use Rattle.gcc_units.specs.Rates.{IsBounds}
 use Rattle.rtp_wire.specs.Place.{place_of}
 use Rattle.pace_budget.specs.declared.bucket.TheConstants.{GREATEST_WINDOW}
@@ -25,6 +25,7 @@ use Rattle.pacer.specs.Afters.{spending, has_media}
 use Rattle.send_core.specs.declared.call.Call.{Call}
 use Rattle.send_core.specs.declared.call.Reply.{Reply}
 use Rattle.send_core.specs.declared.call.Entry.{Entry}
+use Rattle.send_core.specs.declared.counts.TheConstants.{MOST_SENT, MOST_ACCEPTED}
 use Rattle.send_core.specs.declared.parts.Parts.{Parts}
 use Rattle.send_core.specs.declared.settings.Settings.{Settings}
 use Rattle.send_core.specs.declared.settings.TheConstants.{LEAST_PERCENT, GREATEST_PERCENT, LEAST_EXTENSION, GREATEST_EXTENSION}
@@ -78,7 +79,7 @@ pub record Laws (history : List Entry) : Type 0 where
   pub last : last_sent_at (events history) ≤ now history
   pub within : IsWithin (length (sent history)) (length (est history).credits) (cluster_deeds history)
   pub few_credits : length (est history).credits ≤ length (sent history)
-  pub judged : (est history).reports ≤ length history
+  pub judged : (est history).reports ≤ length (reports (events history))
   pub until : IsUntil (now history) (est history)
 
 -- what more of them keeps: no report has more statuses than may be, and the estimates know just the credits
@@ -139,6 +140,12 @@ pub record Steps (call : Call) (given : Reply) (before after : Parts) : Type 0 w
   pub started : after.started ≡ (before.started || starts_by call given)
   pub few_statuses : All HasFewStatuses (reports (events_by call given))
 
+-- one more call keeps the counts of a history within their limits
+pub record MayGrow (history : List Entry) : Type 0 where
+  pub few_sent : length (sent history) + MOST_SENDS ≤ MOST_SENT
+  pub few_judged : length (reports (events history)) < MOST_REPORTS
+  pub few_accepted : length (accepted history) < MOST_ACCEPTED
+
 -- they stand for a history that may get one more entry
 abbrev pub StandsForShort : Parts → Type 0
-StandsForShort parts = (history : List Entry) × StandsFor parts history × (length history < MOST_ENTRIES)
+StandsForShort parts = (history : List Entry) × StandsFor parts history × MayGrow history

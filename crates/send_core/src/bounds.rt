@@ -38,8 +38,8 @@ fn is_quiet(parts: &Parts) -> bool
     parts.clusters.waiting() == 0 && parts.pacer.tally().padding_rate == 0
 }
 
-// How many packets leave with a pace at the most.
-fn most_paced(parts: &Parts) -> u32
+/// How many packets leave with a pace at the most.
+pub fn most_paced(parts: &Parts) -> u32
     ensures value { result ≡ most_paced parts.now }
     ensures few { result ≤ MOST_SENDS }
 {

@@ -133,7 +133,7 @@ impl Parts {
     }
 
     /// A packet is to be sent.
-    fn enqueue(&mut self, at: u64, class: Class, wire: &Bytes) -> Reply
+    pub fn enqueue(&mut self, at: u64, class: Class, wire: &Bytes) -> Reply
         requires { StandsForShort self.old }
         ensures answer { (history : List Entry) → StandsFor self.old history → result ≡ reply history (call_kind.Enqueue at class wire.now) }
         ensures steps { Steps (call_kind.Enqueue at class wire.now) result self.old self.new }
@@ -170,7 +170,7 @@ impl Parts {
     }
 
     /// What may leave now is sent.
-    fn pace(&mut self, at: u64, room: SentList) -> Reply
+    pub fn pace(&mut self, at: u64, room: SentList) -> Reply
         requires stands { StandsForShort self.old }
         requires empty { room.items ≡ [] }
         requires room { MOST_SENDS ≤ room.spare }
@@ -196,7 +196,7 @@ impl Parts {
     }
 
     /// A pace where nothing may leave.
-    fn pace_nothing(&mut self, at: u64, none: SentList) -> Reply
+    pub fn pace_nothing(&mut self, at: u64, none: SentList) -> Reply
         requires stands { StandsForShort self.old }
         requires empty { none ≡ bare [] }
         requires nothing { most_paced self.old ≡ 0 }
@@ -240,7 +240,12 @@ impl Parts {
 
     /// A report came. At `NoMemory` nothing has changed. Beside the reply comes room for its lists once
     /// more.
-    fn report(&mut self, alloc: Global, at: u64, bytes: &Bytes) -> Result<(Reply, Rooms), NoMemory>
+    pub fn report(
+        &mut self,
+        alloc: Global,
+        at: u64,
+        bytes: &Bytes,
+    ) -> Result<(Reply, Rooms), NoMemory>
         requires { StandsForShort self.old }
         ensures answer { IfOk result (λ r. (history : List Entry) → StandsFor self.old history → r.0 ≡ reply history (call_kind.Report at bytes.now)) }
         ensures steps { IfOk result (λ r. Steps (call_kind.Report at bytes.now) r.0 self.old self.new) }
@@ -302,7 +307,7 @@ impl Parts {
 
     /// Settings are changed. At `NoMemory` nothing has changed. Beside the reply comes room for its lists
     /// once more.
-    fn configure(
+    pub fn configure(
         &mut self,
         alloc: Global,
         at: u64,

@@ -1,10 +1,11 @@
-use Rattle.std.proofs.Common.{◌≡◌, ◌≤◌, length, refl, sym, ◌∙◌, ap, subst, arith, All}
+use Rattle.std.proofs.Common.{◌≡◌, ◌<◌, ◌≤◌, length, refl, sym, ◌∙◌, ap, subst, arith, All}
 use Rattle.gcc_units.specs.declared.limits.TheConstants.{GREATEST_MOMENT, GREATEST_PACKET}
 use Rattle.pace_queues.specs.Waiting.{HasIndexBelow}
 use Rattle.send_core.specs.declared.call.Call.TheVariants as call_kind
 use Rattle.send_core.specs.declared.parts.Parts.{Parts}
 use Rattle.send_core.specs.History.{accepted, waiting}
-use Rattle.send_core.proofs.Pushes.{waiting-below, accepted-few}
+use Rattle.send_core.specs.declared.counts.TheConstants.{MOST_ACCEPTED}
+use Rattle.send_core.proofs.Pushes.{waiting-below}
 use Rattle.send_core.proofs.StepsMade.{steps_late, steps_refused, steps_full, steps_accepted, place_of-small}
 use Rattle.send_core.proofs.parts.Parts.enqueue.Goals as goal
 
@@ -42,9 +43,9 @@ returns-in-Err-accept-clause-steps c =
 
 pub overflow_add-self : goal.overflow_add-self
 overflow_add-self c =
-    let few : length (accepted c.requires.0) ≤ length c.requires.0 = accepted-few c.requires.0 in
+    let few : length (accepted c.requires.0) < MOST_ACCEPTED = c.requires.2.few_accepted in
     let count : c.move_to.new.self.accepted ≡ length (accepted c.requires.0) = ap (λ (p : Parts). p.accepted) c.move_to.ensures ∙ c.requires.1.count in
-    omega (arith, c.requires.2)
+    omega arith
 
 pub returns-clause-steps : goal.returns-clause-steps
 returns-clause-steps c =

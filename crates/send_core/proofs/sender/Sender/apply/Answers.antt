@@ -7,10 +7,15 @@ use Rattle.send_core.specs.Levels.{tally_of}
 use Rattle.rtp_wire.specs.Wires.{bare_wires}
 use Rattle.send_core.specs.Stands.{StandsFor}
 use Rattle.send_core.specs.Wires.{wires}
+use Rattle.send_core.proofs.FewCalls.{grows-short}
 use Rattle.send_core.proofs.Legality.{IsLegal-push}
 use Rattle.send_core.proofs.Standing.{stands-push}
 use Rattle.send_core.proofs.Applied.{readable-all, known-all, tally-is, wires-are}
 use Rattle.send_core.proofs.sender.Sender.apply.Goals as goal
+
+pub serve-requires-clause-stands : goal.serve-requires-clause-stands
+serve-requires-clause-stands c =
+    (c.self.inside.journal.items, c.self.invariant.1, grows-short c.self.inside.journal.items c.self.invariant.1.laws (omega (arith, c.len.ensures)))
 
 pub stamp_all-requires-clause-readable : goal.stamp_all-requires-clause-readable
 stamp_all-requires-clause-readable c = readable-all c.self.inside.journal.items c.reserve.new.self.items c.self.inside.parts c.self.invariant.1 c.reserve.ensures.items

@@ -33,7 +33,8 @@ pub use laws::{
     lines_are_cut_at_line_feeds, lines_in_order_are_legal, lines_in_order_merge,
     made_traces_have_all_calls, no_bytes_spell_two_traces,
 };
-pub use making::make_trace;
+pub use made_packets::{AUDIO_BYTES, MOST_VIDEO_BYTES, frame, made_packet};
+pub use making::{is_frame_due, make_trace, opening};
 pub use reading::{next_line, read_front, read_trace};
 pub use trace::{Action, Line, LineList, Trace};
 pub use writing::write_trace;

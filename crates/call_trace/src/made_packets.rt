@@ -1,11 +1,12 @@
 //! The packets of a made trace.
 
-ghost use Rattle.std.specs.Prelude.{◌≡◌, ◌*◌, ◌^◌, ◌<◌, ◌≤◌, IfOk};
+ghost use Rattle.std.specs.Prelude.{◌≡◌, ◌⊎◌, ◌*◌, ◌^◌, ◌<◌, ◌≤◌, IfOk};
 ghost use Rattle.gcc_units.specs.Listed.{bare};
+ghost use Rattle.gcc_units.specs.declared.class.Class.TheVariants.{Audio, Video};
 ghost use Rattle.gcc_units.specs.declared.limits.TheConstants.{GREATEST_RATE};
-ghost use Rattle.call_trace.specs.MadePackets.{packet, audio_packet, video_packet, frame_packets, packet_bytes};
+ghost use Rattle.call_trace.specs.MadePackets.{packet, made_packet, audio_packet, video_packet, frame_packets, packet_bytes};
 
-use gcc_units::{Bytes, GREATEST_RATE, NoMemory, Rate};
+use gcc_units::{Bytes, Class, GREATEST_PACKET, GREATEST_RATE, NoMemory, Rate};
 use std::alloc::Global;
 
 /// One word of extension, whose one element has ID 3 and two bytes for the transport-wide number
@@ -15,8 +16,11 @@ const EXTENSION: [u8; 8] = [0xbe, 0xde, 0, 1, 0x31, 0, 0, 0];
 /// The bytes of the fixed header and of the extension.
 const LEAST_BYTES: u64 = 20;
 
+/// The bytes of an audio packet.
+pub const AUDIO_BYTES: u32 = 100;
+
 /// The bytes that a video packet has at most.
-const MOST_VIDEO_BYTES: u64 = 1_200;
+pub const MOST_VIDEO_BYTES: u64 = 1_200;
 
 /// What the packets of a source have in common.
 struct Source {
@@ -38,8 +42,8 @@ const VIDEO: Source = Source {
 fn packet(
     alloc: Global,
     source: &Source,
-    before: u32,
-    timestamp: u32,
+    before: u64,
+    timestamp: u64,
     size: usize,
 ) -> Result<Bytes, NoMemory>
     requires room { 20 ≤ size }
@@ -49,38 +53,75 @@ fn packet(
     let mut bytes = Vec::with_capacity(alloc, size)?;
     bytes.extend_from_slice(&[0x90, source.payload_type])?;
     bytes.extend_from_slice(&((before % 65_536) as u16).to_be_bytes())?;
-    bytes.extend_from_slice(&timestamp.to_be_bytes())?;
+    bytes.extend_from_slice(&((timestamp % 4_294_967_296) as u32).to_be_bytes())?;
     bytes.extend_from_slice(&source.ssrc.to_be_bytes())?;
     bytes.extend_from_slice(&EXTENSION)?;
     bytes.resize(size, 0)?;
     Ok(Bytes::from_vec(bytes))
 }
 
-/// The audio packet of a millisecond: 48 units of time in each.
+/// The packet of an audio or a video source at the millisecond `t`, with so many of its kind before it, filled
+/// up with zeros to its size in bytes (the fixed header of RFC 3550, section 5.1, and an extension of RFC 8285,
+/// section 4.2). Audio counts 48 units of time in a millisecond, video 90. `NoMemory` tells that memory ran
+/// out, and nothing else.
+pub fn made_packet(
+    alloc: Global,
+    class: Class,
+    count: u64,
+    t: u64,
+    size: u32,
+) -> Result<Bytes, NoMemory>
+    requires source { (class ≡ Audio) ⊎ (class ≡ Video) }
+    requires room { 20 ≤ size }
+    requires short { size ≤ GREATEST_PACKET }
+    requires early { t ≤ 2 ^ 40 }
+    ensures { IfOk result (λ bytes. bytes ≡ bare (made_packet class count t size)) }
+{
+    match class {
+        Class::Audio => packet(alloc, &AUDIO, count, 48 * t, size as usize),
+        Class::Video => packet(alloc, &VIDEO, count, 90 * t, size as usize),
+        Class::Retransmission | Class::Fec => unreachable!(),
+    }
+}
+
+/// The audio packet of a millisecond.
 pub fn audio_packet(alloc: Global, before: u32, t: u32) -> Result<Bytes, NoMemory>
     requires { 48 * t < 2 ^ 32 }
     ensures { IfOk result (λ bytes. bytes ≡ bare (audio_packet before t)) }
 {
-    packet(alloc, &AUDIO, before, 48 * t, 100)
+    made_packet(
+        alloc,
+        Class::Audio,
+        u64::from(before),
+        u64::from(t),
+        AUDIO_BYTES,
+    )
 }
 
-/// A video packet of a millisecond: 90 units of time in each.
+/// A video packet of a millisecond.
 pub fn video_packet(alloc: Global, before: u32, t: u32, size: u64) -> Result<Bytes, NoMemory>
     requires time { 90 * t < 2 ^ 32 }
     requires room { 20 ≤ size }
-    requires short { size < 2 ^ 32 }
+    requires short { size ≤ GREATEST_PACKET }
     ensures { IfOk result (λ bytes. bytes ≡ bare (video_packet before t size)) }
 {
-    packet(alloc, &VIDEO, before, 90 * t, size as usize)
+    made_packet(
+        alloc,
+        Class::Video,
+        u64::from(before),
+        u64::from(t),
+        size as u32,
+    )
 }
 
-/// In how many packets a frame goes at this target rate, and the bytes of each.
+/// In how many packets a frame goes at this target rate in bit/s, at thirty frames a second, and the bytes of
+/// each.
 pub fn frame(target: Rate) -> (u64, u64)
     requires { target ≤ GREATEST_RATE }
     ensures packets { result.0 ≡ frame_packets target }
     ensures bytes { result.1 ≡ packet_bytes target }
     ensures least { 20 ≤ result.1 }
-    ensures most { result.1 < 2 ^ 32 }
+    ensures most { result.1 ≤ MOST_VIDEO_BYTES }
 {
     let bytes = target / 240;
     let packets = bytes.div_ceil(MOST_VIDEO_BYTES).max(1);

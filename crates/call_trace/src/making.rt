@@ -2,7 +2,7 @@
 
 ghost use Rattle.std.specs.Prelude.{◌≡◌, ◌+◌, ◌*◌, ◌^◌, ◌<◌, ◌≤◌, ◌++◌, nat_le, map, length, if◌then◌else◌, IfOk, OnOk};
 ghost use Rattle.gcc_units.specs.Listed.{bare};
-ghost use Rattle.gcc_units.specs.declared.limits.TheConstants.{MOST_ACTORS, MOST_LINES};
+ghost use Rattle.gcc_units.specs.declared.limits.TheConstants.{GREATEST_PACKET, MOST_ACTORS, MOST_LINES};
 ghost use Rattle.call_trace.specs.Plain.{plain, Fits, IsSettled};
 ghost use Rattle.call_trace.specs.MadeReports.{AreNear};
 ghost use Rattle.call_trace.specs.Making.{is_audio, is_video, is_report, moments_by, opening, unmade, asked, moment, with_opening, with_audio, with_video, with_packets, is_frame_due, with_frame, with_pace, uncovered, is_report_due, with_report, millisecond, milliseconds, actor_of, line_of, made};
@@ -13,7 +13,9 @@ use crate::made_packets::{audio_packet, frame, video_packet};
 use crate::made_reports::report_bytes;
 use crate::trace::{Action, Line, LineList, Trace};
 use allocator::{Stream, StreamList};
-use gcc_units::{Class, IdList, MOST_ACTORS, MOST_LINES, MOST_STATUSES, Moment, NoMemory};
+use gcc_units::{
+    Class, GREATEST_PACKET, IdList, MOST_ACTORS, MOST_LINES, MOST_STATUSES, Moment, NoMemory,
+};
 use rand_core::SeedableRng;
 use rand_xoshiro::Xoshiro256PlusPlus;
 use send_core::{ApplyFault, BoxedChange, Call, Change, Entry, Journal, Reply, Sender};
@@ -44,15 +46,16 @@ fn moment(t: u32) -> Moment
     1000 * u64::from(t)
 }
 
-/// Whether a frame is due, of thirty in a second.
-fn is_frame_due(t: u32) -> bool
+/// Whether a frame of a made trace is due in the millisecond `t`, of thirty in a second.
+pub fn is_frame_due(t: u32) -> bool
     ensures { result ≡ is_frame_due t }
 {
     t % 100 == 0 || t % 100 == 33 || t % 100 == 67
 }
 
-/// The start of both estimates, and one stream.
-fn opening(alloc: Global) -> Result<Change, NoMemory>
+/// The change that a made trace begins with: the start of both estimates, and one stream. `NoMemory` tells that
+/// memory ran out, and nothing else.
+pub fn opening(alloc: Global) -> Result<Change, NoMemory>
     ensures { IfOk result (λ change. change ≡ opening) }
 {
     let stream = Stream {
@@ -201,7 +204,7 @@ impl Maker {
         requires early { t ≤ 5 * MOST_LINES }
         requires counted { IsCounted self.old }
         requires room { 20 ≤ size }
-        requires short { size < 2 ^ 32 }
+        requires short { size ≤ GREATEST_PACKET }
         ensures making { OnOk result (making self.new ≡ with_video t size (making self.old)) }
         ensures counted { OnOk result (IsCounted self.new) }
     {

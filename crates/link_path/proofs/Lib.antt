@@ -5,3 +5,4 @@ mod LinkTimes
 mod Runs
 mod Built
 mod Heard
+mod Writable

@@ -1,7 +1,8 @@
 -- What one more offer or question makes of a link, and of the definitions over all of them.
-use Rattle.std.proofs.Common.{◌≡◌, ℕ, ◌+◌, ◌-◌, ◌*◌, ◌/◌, ◌^◌, ◌<◌, ◌≤◌, max, true, false, nat_lt, if◌then◌else◌, List, [], ◌∷◌, ◌++◌, take, drop, refl, sym, ◌∙◌, ap, subst, append-nil, arith, le_refl, length-drop}
+use Rattle.std.proofs.Common.{◌≡◌, ℕ, ◌+◌, ◌-◌, ◌*◌, ◌/◌, ◌^◌, ◌<◌, ◌≤◌, max, true, false, nat_lt, if◌then◌else◌, List, [], ◌∷◌, ◌++◌, length, take, drop, refl, sym, ◌∙◌, ap, subst, append-nil, arith, le_refl, length-drop}
 use Rattle.std.specs.List.{filter, prefix_len}
 use Rattle.std.proofs.lemmas.Bool.Decides.{nat_tests}
+use Rattle.std.proofs.lemmas.List.{drop_all}
 use Rattle.std.proofs.lemmas.List.Sums.{fold-append}
 use Rattle.std.proofs.lemmas.Nat.{mul-le}
 use Rattle.gcc_units.specs.Walk.{walk-push, flat_map-push, flat_each-push}
@@ -109,3 +110,11 @@ stands-asked now settings free count moment before inside s events view h kept c
       free = ap (λ (k : KeptLink). k.free) view ∙ h.free ∙ ap (free_after s) (sym (offers-push events (asked moment) ∙ append-nil (offers events)));
       inside = left ∙ ap (filter (is_on_its_way moment)) same ∙ sym (held-push s events (asked moment));
     }
+
+-- ---- all at once
+
+pub none-behind : (now : KeptLink) (settings : LinkSettings) (free count : ℕ) (before inside : List Arrival) → record { settings = settings; free = free; inside = before } ≡ now
+    → length before ≤ count → inside ≡ drop count before → record { settings = settings; free = free; inside = inside } ≡ record now { inside = [] }
+none-behind now settings free count before inside view all inside_is =
+    ap (λ (xs : List Arrival). record { settings = settings; free = free; inside = xs }) (inside_is ∙ drop_all count before all)
+    ∙ ap (λ (k : KeptLink). record k { inside = [] }) view

@@ -1,5 +1,5 @@
 -- The receiver: what it tells of the numbers that no list told of before.
-use Rattle.std.specs.Prelude.{ℕ, ◌+◌, ◌-◌, ◌/◌, ◌%◌, ◌≤◌, Some, None, List, [], ◌∷◌, ◌++◌, length, replicate}
+use Rattle.std.specs.Prelude.{ℕ, pos, negsuc, ◌+◌, ◌-◌, ◌/◌, ◌%◌, ◌^◌, ◌<◌, ◌≤◌, ◌≤ℤ◌, Some, None, List, [], ◌∷◌, ◌++◌, length, replicate}
 use Rattle.gcc_units.specs.declared.limits.TheConstants.{ARRIVAL_MICROSECONDS}
 use Rattle.twcc_report.specs.Spelling.{Feedback}
 use Rattle.link_path.specs.declared.TheConstants.{GREATEST_TAKEN}
@@ -33,6 +33,11 @@ abbrev pub NumbersRise : ℕ → List Arrival → Type 0
 NumbersRise from [] = Unit {0}
 NumbersRise from (a ∷ later) = (from ≤ a.number) × (a.at ≤ GREATEST_TAKEN) × NumbersRise (a.number + 1) later
 
+-- and the last arrival that was told of is in its range too
+pub record IsReceiver (from last : ℕ) (taken : List Arrival) : Type 0 where
+  pub rise : NumbersRise from taken
+  pub early : last ≤ GREATEST_TAKEN / ARRIVAL_MICROSECONDS
+
 -- the receiver may take it next
 pub record IsNext (now : KeptReceiver) (a : Arrival) : Type 0 where
   pub after : next_from now.from now.taken ≤ a.number
@@ -55,3 +60,10 @@ told_all now =
       feedback = (now.feedback + length (runs_of (heard now.from now.taken))) % 256;
       taken = [];
     }
+
+-- the report has a spelling
+pub record IsWritable (f : Feedback) : Type 0 where
+  pub some : 1 ≤ length f.statuses
+  pub few : length f.statuses < 2 ^ 16
+  pub low : negsuc 8388607 ≤ℤ f.reference
+  pub high : f.reference ≤ℤ pos 8388607

@@ -123,6 +123,22 @@ impl Link {
         Ok(arrivals)
     }
 
+    /// Takes out all packets inside, whenever they arrive, in the order in which they do. At `NoMemory` the link
+    /// is as before.
+    pub fn take_out(&mut self, alloc: Global) -> Result<ArrivalList, NoMemory>
+        ensures items { IfOk result (λ l. (settings : LinkSettings) (events : List Event) → StandsFor self.old settings events
+            → l ≡ bare (held settings events)) }
+        ensures left { OnOk result (self.new ≡ record self.old { inside = [] }) }
+        ensures err { OnErr result (self.new ≡ self.old) }
+    {
+        let count = self.inside.len() as u32;
+        let mut arrivals = Sequence::new(alloc);
+        arrivals.reserve(count)?;
+        move_out(&mut self.inside, &mut arrivals, count);
+        arrivals.settle();
+        Ok(arrivals)
+    }
+
     /// How many packets are inside.
     pub fn inside(&self) -> u32
         ensures { (settings : LinkSettings) (events : List Event) → StandsFor self.now settings events

@@ -1,11 +1,11 @@
 //! The receiver: it takes what arrives, and reports it.
 
-ghost use Rattle.std.specs.Prelude.{◌≡◌, ◌↔◌, ℕ, ◌+◌, ◌≤◌, ◌∷◌, ◌++◌, [], List, Option, None, length, map, replicate, IfOk, OnOk, OnErr};
+ghost use Rattle.std.specs.Prelude.{◌≡◌, ◌↔◌, ℕ, ◌+◌, ◌≤◌, ◌∷◌, ◌++◌, [], List, Option, None, length, map, replicate, All, IfOk, OnOk, OnErr};
 ghost use Rattle.gcc_units.specs.Listed.{bare};
 ghost use Rattle.twcc_report.specs.Spelling.{view};
 ghost use Rattle.link_path.specs.Division.{Told};
 ghost use Rattle.link_path.specs.Building.{IsBuilt};
-ghost use Rattle.link_path.specs.Receiver.{IsNext, NumbersRise, heard, next_from, next_reports, told_all};
+ghost use Rattle.link_path.specs.Receiver.{IsNext, IsWritable, NumbersRise, heard, next_from, next_reports, told_all};
 
 use crate::building::{Building, ReportList};
 use crate::link::Arrival;
@@ -23,13 +23,13 @@ pub struct Receiver {
 }
 
 impl Model for Receiver {
-    ghost use Rattle.link_path.specs.Receiver.{KeptReceiver, NumbersRise};
+    ghost use Rattle.link_path.specs.Receiver.{KeptReceiver, IsReceiver};
 
     ghost Value = { KeptReceiver };
 
     ghost view = { λ r. record { from = r.from; last = r.last; feedback = r.feedback; taken = r.taken.items } };
 
-    ghost invariant = { λ r. NumbersRise r.from r.taken.items };
+    ghost invariant = { λ r. IsReceiver r.from r.last r.taken.items };
 }
 
 /// Puts in so many numbers that did not arrive.
@@ -98,6 +98,9 @@ impl Receiver {
         // It is empty exactly where nothing was taken since the last list.
         ensures empty { IfOk result (λ l. (length l.items ≡ 0) ↔ (self.old.taken ≡ [])) }
         ensures settled { IfOk result (λ l. l ≡ bare l.items) }
+
+        // Each has a spelling.
+        ensures writable { IfOk result (λ l. All IsWritable (map view l.items)) }
         ensures state { OnOk result (self.new ≡ told_all self.old) }
         ensures err { OnErr result (self.new ≡ self.old) }
     {

@@ -8,4 +8,7 @@ pub invariant_of-self : goal.invariant_of-self
 invariant_of-self c =
     let P : KeptReceiver → Type 0 = λ k. IsNext k c.args.arrival.now in
     let next = subst P (sym c.self.view_is) c.requires in
-    rise-pushed (is_ok c.push.result) c.self.inside.from c.self.inside.taken.items c.push.new.self.items c.args.arrival.now c.push.ensures.items c.self.invariant next.after next.range
+    record {
+      rise = rise-pushed (is_ok c.push.result) c.self.inside.from c.self.inside.taken.items c.push.new.self.items c.args.arrival.now c.push.ensures.items c.self.invariant.rise next.after next.range;
+      early = c.self.invariant.early;
+    }

@@ -38,6 +38,3 @@ pub use making::{is_frame_due, make_trace, opening};
 pub use reading::{next_line, read_front, read_trace};
 pub use trace::{Action, Line, LineList, Trace};
 pub use writing::write_trace;
-
-#[cfg(test)]
-mod tests;

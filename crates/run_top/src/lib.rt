@@ -25,8 +25,3 @@ pub use laws::{commands_are_asked_for, numbers_are_decimals};
 pub use status::Status;
 pub use top::{run, run_plain};
 pub use words::WordList;
-
-#[cfg(test)]
-mod race_tests;
-#[cfg(test)]
-mod tests;

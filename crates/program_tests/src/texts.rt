@@ -1,7 +1,7 @@
 //! That memory is found. Printed texts and verdicts stand in tests/vectors.
 
-use super::*;
 use call_trace::{LineList, Trace};
+use reply_text::{SeenList, Verdict, check_history, write_history};
 use send_core::Sender;
 use std::test::Fail;
 

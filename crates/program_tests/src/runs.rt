@@ -3,9 +3,9 @@
 
 ghost use Rattle.std.specs.Prelude.{◌<◌, None};
 
-use super::*;
 use gcc_units::{Bytes, IdList};
 use run_io::{Failed, MemSink, MemSource, Sink};
+use run_top::{Status, WordList, run, run_plain};
 use std::alloc::Global;
 use std::process::Abort;
 use std::test::Fail;

@@ -1,7 +1,7 @@
 //! What the vectors cannot show: that memory is found, and the limit of lines. Tables of good and
 //! of bad traces stand in tests/vectors.
 
-use super::*;
+use call_trace::*;
 use gcc_units::{MOST_CHECK_BYTES, MOST_LINES};
 use send_core::Call;
 use std::alloc::AllocGlobal;

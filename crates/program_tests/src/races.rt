@@ -2,11 +2,11 @@
 
 ghost use Rattle.std.specs.Prelude.{◌≤◌};
 
-use crate::tests::{bytes_of, served, smallest_text, smallest_trace, words};
-use crate::{Status, run};
+use crate::runs::{bytes_of, served, smallest_text, smallest_trace, words};
 use call_trace::{make_trace, write_trace};
 use gcc_units::{IdList, MOST_ACTORS};
 use run_io::{Gate, MemSink, MemSource, OpenGate};
+use run_top::{Status, run};
 use std::alloc::Global;
 use std::process::Abort;
 use std::sync::Wait;

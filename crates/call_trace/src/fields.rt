@@ -9,6 +9,7 @@ ghost use Rattle.call_trace.specs.Reading.{actor_at, moment_at, class_at, hex_at
 use crate::fault::{Bad, NO_ACTOR, NO_HEX, NO_MOMENT, NO_VERB};
 use gcc_units::{Bytes, Class, MOST_CHECK_BYTES, Sequence};
 use hex::FromHexError;
+use memchr::memchr;
 use std::alloc::Global;
 
 /// The place of a byte, or the length where it is not there.
@@ -16,12 +17,10 @@ pub fn find(bytes: &[u8], byte: u8) -> usize
     ensures place { result ≡ position_or_len (is_byte byte) bytes.now }
     ensures within { result ≤ length bytes.now }
 {
-    for (place, b) in bytes.iter().enumerate() {
-        if *b == byte {
-            return place;
-        }
+    match memchr(byte, bytes) {
+        Some(place) => place,
+        None => bytes.len(),
     }
-    bytes.len()
 }
 
 /// The first field, and all that stands behind the space after it.

@@ -2,7 +2,7 @@ pub mod Pace
 pub mod Course
 pub mod Records
 pub mod Ruled
-pub mod Afters
+pub mod LeftByRecords
 pub mod Sends
 pub mod Force
 pub mod State

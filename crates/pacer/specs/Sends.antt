@@ -17,7 +17,7 @@ use Rattle.pacer.specs.declared.course.Terms.{Terms}
 use Rattle.pacer.specs.Course.{IsSmall}
 use Rattle.pacer.specs.Pace.{Standing, names, IsBelow, NamesBelow, index_of, deed_by, clusters_by, rule, after, then_on, paced, paced-zero, paced-suc}
 use Rattle.pacer.specs.Ruled.{IsAllowed, rule-is, size-small}
-use Rattle.pacer.specs.Afters.{spending}
+use Rattle.pacer.specs.LeftByRecords.{spending}
 
 -- one induction for all: what holds of a send at each standing that may come holds of every send
 pub sends-have : (P : Sent → Type 0) (May : Standing → Type 0) (terms : Terms)

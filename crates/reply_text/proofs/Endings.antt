@@ -17,7 +17,7 @@ use Rattle.reply_text.specs.Legal.{is_look, looks, looks_of, look_of, AreLegalGl
 use Rattle.reply_text.specs.Looking.{glances_in, AreTargets}
 use Rattle.reply_text.specs.Verdict.{IsEnding}
 use Rattle.reply_text.proofs.OwnGlances.{looks-push}
-use Rattle.reply_text.proofs.Nexts.{take-next}
+use Rattle.reply_text.proofs.OneMore.{take-next}
 use Rattle.reply_text.proofs.AllGlances.{joined}
 use Rattle.reply_text.proofs.Printed.{IsShort, printed_read}
 

@@ -1,4 +1,4 @@
-pub mod Nexts
+pub mod OneMore
 pub mod Steps
 pub mod Lefts
 pub mod Exact

@@ -17,7 +17,7 @@ use Rattle.reply_text.specs.Text.{line_of}
 use Rattle.reply_text.specs.Verdict.{calls, IsNext, IsStep, HasGoodLine, Begins}
 use Rattle.reply_text.specs.Walking.{IsPlaced, ArePlaced, IsServed}
 use Rattle.reply_text.specs.Looking.{AreTargets}
-use Rattle.reply_text.proofs.Nexts.{flat_map-next}
+use Rattle.reply_text.proofs.OneMore.{flat_map-next}
 use Rattle.reply_text.proofs.Steps.{caller_told, next_one, same_entry}
 use Rattle.reply_text.proofs.Lefts.{made_own, made_other}
 

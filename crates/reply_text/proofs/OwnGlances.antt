@@ -15,7 +15,7 @@ use Rattle.reply_text.specs.declared.seen.Seen.{Seen}
 use Rattle.reply_text.specs.declared.looking.Standing.{Standing}
 use Rattle.reply_text.specs.Legal.{looks, looks_of, look_of, IsLegalGlance, AreLegalGlances}
 use Rattle.reply_text.specs.Looking.{IsSeen, IsStanding, HasOwn}
-use Rattle.reply_text.proofs.Nexts.{take-next}
+use Rattle.reply_text.proofs.OneMore.{take-next}
 use Rattle.reply_text.proofs.Exact.{one_call}
 
 -- ---- places in lists

@@ -10,7 +10,7 @@ use Rattle.pace_budget.specs.Steps.{step, StandsFor-steps}
 use Rattle.pacer.specs.declared.sent.Sent.{Sent}
 use Rattle.pacer.specs.declared.sent.Kind.{Kind}
 use Rattle.pacer.specs.declared.sent.Kind.TheVariants as kind
-use Rattle.pacer.specs.Afters.{spending}
+use Rattle.pacer.specs.LeftByRecords.{spending}
 use Rattle.pacer.specs.Course.{IsLowered}
 use Rattle.pacer.specs.Pace.{deed_by}
 use Rattle.pacer.specs.Sends.{IsSmallRecord}

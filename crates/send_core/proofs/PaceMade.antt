@@ -18,7 +18,7 @@ use Rattle.pacer.specs.declared.course.Terms.{Terms}
 use Rattle.pacer.specs.declared.pacing.Pacing.{Pacing}
 use Rattle.pacer.specs.Course.{IsLowered, MayLower, probes_of}
 use Rattle.pacer.specs.Pace.{Standing, unsent, paced, after_all}
-use Rattle.pacer.specs.Afters.{after_each, after_all-is}
+use Rattle.pacer.specs.LeftByRecords.{after_each, after_all-is}
 use Rattle.pacer.specs.State.{State, advanced, tuned, terms, standing, left}
 use Rattle.send_core.specs.declared.call.Call.TheVariants as call_kind
 use Rattle.send_core.specs.declared.call.Reply.TheVariants as reply_kind

@@ -12,7 +12,7 @@ use Rattle.pace_queues.specs.declared.ticket.Ticket.{Ticket}
 use Rattle.pacer.specs.declared.pacing.Pacing.{Pacing}
 use Rattle.pacer.specs.Force.{in_force}
 use Rattle.pacer.specs.Pace.{unsent, padding_after}
-use Rattle.pacer.specs.Afters.{spending, has_media}
+use Rattle.pacer.specs.LeftByRecords.{spending, has_media}
 use Rattle.send_core.specs.declared.call.Call.{Call}
 use Rattle.send_core.specs.declared.call.Reply.{Reply}
 use Rattle.send_core.specs.declared.call.Entry.{Entry}

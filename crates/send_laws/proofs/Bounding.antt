@@ -12,7 +12,7 @@ use Rattle.pace_budget.specs.Spans.{Opens, Opens-append, Count, count, none_coun
 use Rattle.pacer.specs.declared.sent.Sent.{Sent}
 use Rattle.pacer.specs.declared.sent.Kind.{Kind}
 use Rattle.pacer.specs.declared.sent.Kind.TheVariants as kind
-use Rattle.pacer.specs.Afters.{has_media}
+use Rattle.pacer.specs.LeftByRecords.{has_media}
 use Rattle.pacer.specs.Pace.{deed_by, deed_of, paced}
 use Rattle.pacer.specs.Sends.{paced-opens}
 use Rattle.send_core.specs.declared.call.Entry.{Entry}

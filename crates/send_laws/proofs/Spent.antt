@@ -5,7 +5,7 @@ use Rattle.pacer.specs.declared.sent.Sent.{Sent}
 use Rattle.pacer.specs.declared.sent.Kind.{Kind}
 use Rattle.pacer.specs.declared.sent.Kind.TheVariants as kind
 use Rattle.pacer.specs.Pace.{is_media}
-use Rattle.pacer.specs.Afters.{has_media}
+use Rattle.pacer.specs.LeftByRecords.{has_media}
 use Rattle.send_laws.specs.Spans.{size_as, media_size, media_bytes, spent_as, spent_size, all_spent, up_to_media, spent_bytes}
 
 -- ---- tests

@@ -5,7 +5,7 @@ use Rattle.pacer.specs.declared.sent.Sent.{Sent}
 use Rattle.pacer.specs.declared.sent.Kind.{Kind}
 use Rattle.pacer.specs.declared.sent.Kind.TheVariants as kind
 use Rattle.pacer.specs.Pace.{is_media}
-use Rattle.pacer.specs.Afters.{has_media}
+use Rattle.pacer.specs.LeftByRecords.{has_media}
 use Rattle.send_core.specs.declared.call.Entry.{Entry}
 use Rattle.send_core.specs.History.{later, now}
 use Rattle.send_core.specs.Levels.{rate, padding_rate}

@@ -1,7 +1,7 @@
 use Rattle.std.proofs.Common.{◌≡◌, ◌+◌, ◌++◌, take, length, arith, sym, ◌∙◌, ap, length-append, refl}
 use Rattle.std.proofs.lemmas.Bool.{eq-eqb, ne_eqb}
 use Rattle.call_trace.specs.Merge.{made, calls_by}
-use Rattle.reply_text.proofs.Nexts.{flat_map-next}
+use Rattle.reply_text.proofs.OneMore.{flat_map-next}
 use Rattle.reply_text.proofs.looking.count_calls_by.Goals as goal
 use Rattle.reply_text.proofs.looking.count_calls_by.Goals.{then-entry-actor, else-entry-actor}
 

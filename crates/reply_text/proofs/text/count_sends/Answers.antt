@@ -1,7 +1,7 @@
 use Rattle.std.proofs.Common.{◌≡◌, ◌+◌, ◌++◌, length, take, sym, ◌∙◌, ap, arith, length-append}
 use Rattle.send_core.specs.declared.call.Entry.{Entry}
 use Rattle.send_core.specs.History.{sent, sent_by}
-use Rattle.reply_text.proofs.Nexts.{flat_map-next}
+use Rattle.reply_text.proofs.OneMore.{flat_map-next}
 use Rattle.reply_text.proofs.text.count_sends.Goals as goal
 
 pub loop-k-preserved : goal.loop-k-preserved

@@ -2,7 +2,7 @@ use Rattle.std.proofs.Common.{◌++◌, take, sym, ◌∙◌, ap, append_assoc}
 use Rattle.std.specs.String.{string_bytes}
 use Rattle.std.specs.List.{flat_map}
 use Rattle.reply_text.specs.Text.{line_of}
-use Rattle.reply_text.proofs.Nexts.{flat_map-next}
+use Rattle.reply_text.proofs.OneMore.{flat_map-next}
 use Rattle.reply_text.proofs.text.push_entries.Goals as goal
 
 pub loop-k-preserved : goal.loop-k-preserved

@@ -2,7 +2,7 @@ use Rattle.std.proofs.Common.{◌≡◌, ℕ, ◌+◌, List, [], ◌∷◌, ◌+
 use Rattle.std.specs.String.{string_bytes}
 use Rattle.reply_text.specs.declared.seen.Seen.{Seen}
 use Rattle.reply_text.specs.Text.{glances_by, glance_line, glance_lines}
-use Rattle.reply_text.proofs.Nexts.{take-next, get-there, glance_lines-push, glances_by-push}
+use Rattle.reply_text.proofs.OneMore.{take-next, get-there, glance_lines-push, glances_by-push}
 use Rattle.reply_text.proofs.text.push_glances.Goals as goal
 
 pub loop-seen-preserved : goal.loop-seen-preserved

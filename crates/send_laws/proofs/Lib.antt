@@ -15,3 +15,4 @@ pub mod ClusterDeeds
 pub mod Rising
 pub mod Finding
 pub mod Filling
+pub mod Arriving

@@ -1,10 +1,10 @@
 -- A command is read just where the words ask for it.
-use Rattle.std.proofs.Common.{◌≡◌, ℕ, zero, suc, ◌+◌, ◌≤◌, Bool, true, false, ◌&&◌, cond, nat_eq, nat_le, List, [], ◌∷◌, ◌++◌, length, take, drop, append_assoc, Option, None, Some, inl, inr, ◌⊎◌, refl, sym, ap, subst, ◌∙◌, arith}
-use Rattle.std.specs.Prelude.{codes, map}
+use Rattle.std.proofs.Common.{◌≡◌, ℕ, zero, suc, ◌≤◌, true, false, ◌&&◌, cond, nat_eq, nat_le, List, [], ◌∷◌, ◌++◌, length, take, drop, append_assoc, length-append, Option, None, Some, inl, inr, ◌⊎◌, refl, sym, ap, subst, ◌∙◌, arith}
+use Rattle.std.specs.Prelude.{codes}
 use Rattle.std.specs.Str.{bytes_eq}
 use Rattle.std.specs.Cmp.Lexicographic.{pointwise}
-use Rattle.std.proofs.lemmas.Bool.{and_parts, and_from, leb-true, le-leb}
-use Rattle.std.proofs.lemmas.List.{take-append-drop}
+use Rattle.std.proofs.lemmas.Bool.{and_parts, and_from, leb-true, le-leb, false_from_ne_true}
+use Rattle.std.proofs.lemmas.List.{take-append-drop, append-nil, take_at, drop_at}
 use Rattle.std.proofs.lemmas.Slice.Eq.{bytes_eq-Decides}
 use Rattle.gcc_units.specs.Listed.{Listed}
 use Rattle.gcc_units.specs.declared.limits.TheConstants.{MOST_ACTORS, MOST_LINES}
@@ -14,10 +14,10 @@ use Rattle.run_top.specs.declared.words.Command.TheVariants as command
 use Rattle.run_top.specs.declared.options.Name.{Name}
 use Rattle.run_top.specs.declared.options.Name.TheVariants as name
 use Rattle.run_top.specs.declared.options.Given.{Given}
-use Rattle.run_top.specs.Words.{◌>>=◌, is_text, name_text, given, stripped, in_two, in_one, option_of, or_else, option_at, options_at, number_for, up_to, alone, make_at, demo_at, command_of, IsUpTo}
-use Rattle.run_top.specs.Asking.{texts, IsOption, AreOptions, AreInAnyOrder, HaveOptions, Asks}
+use Rattle.run_top.specs.Words.{◌>>=◌, is_text, name_text, given, stripped, in_two, in_one, option_of, or_else, names, Taken, option_among, option_at, options_at, number_for, within, alone, make_at, demo_at, command_of, IsFromTo}
+use Rattle.run_top.specs.Asking.{texts, IsOption, AreOptions, HaveOptions, Asks}
 use Rattle.run_top.proofs.Decimals.{number_is, is_number}
-use Rattle.run_top.proofs.InOrder.{cond_some, AreOther, first_number, number_behind, as_many, two_in_order, three_in_order}
+use Rattle.run_top.proofs.InOrder.{cond_some, name_is_same, as_many, AreApart, AreFound, find_all, in_order}
 
 abbrev Words : Type 0
 Words = List (Listed ℕ)
@@ -28,6 +28,19 @@ Word = Listed ℕ
 -- the word of these bytes
 abbrev word_of : List ℕ → ℕ → Word
 word_of bytes spare = record { items = bytes; spare = spare }
+
+-- the options of a command
+abbrev make_options : ℕ → ℕ → ℕ → List Given
+make_options seed calls actors = given name.Seed seed ∷ given name.Calls calls ∷ given name.Actors actors ∷ []
+
+abbrev demo_options : ℕ → ℕ → List Given
+demo_options seed calls = given name.Seed seed ∷ given name.Calls calls ∷ []
+
+make_apart : (seed calls actors : ℕ) → AreApart (make_options seed calls actors)
+make_apart seed calls actors = ((refl, (refl, tt)), ((refl, tt), (tt, tt)))
+
+demo_apart : (seed calls : ℕ) → AreApart (demo_options seed calls)
+demo_apart seed calls = ((refl, tt), (tt, tt))
 
 then_some : {A B : Type 0} (o : Option A) (f : A → Option B) (y : B) → (o >>= f) ≡ Some y → (x : A) × (o ≡ Some x) × (f x ≡ Some y)
 then_some None f y e = absurd cc
@@ -84,16 +97,17 @@ option_is n (word ∷ words) rest option e =
       | inr one ↦ one_is n word words rest option one.1
     ]
 
-any_option_is : (words rest : Words) (option : Given) → option_at words ≡ Some (option, rest) → Took words option rest
-any_option_is words rest option e =
-    elim (else_some (option_of name.Seed words) (or_else (option_of name.Calls words) (option_of name.Actors words)) (option, rest) e) [
-      | inl seed ↦ option_is name.Seed words rest option seed
-      | inr other ↦
-          elim (else_some (option_of name.Calls words) (option_of name.Actors words) (option, rest) other) [
-            | inl calls ↦ option_is name.Calls words rest option calls
-            | inr actors ↦ option_is name.Actors words rest option actors
-          ]
+among : (ns : List Name) (words rest : Words) (option : Given) → option_among ns words ≡ Some (option, rest) → Took words option rest
+among [] words rest option e = absurd cc
+among (n ∷ ns) words rest option e =
+    elim (else_some (option_of n words) (option_among ns words) (option, rest) e) [
+      | inl this ↦ option_is n words rest option this
+      | inr later ↦ among ns words rest option later
     ]
+
+any_option_is : (words rest : Words) (option : Given) → option_at words ≡ Some (option, rest) → Took words option rest
+unfolding option_at
+any_option_is words rest option e = among names words rest option e
 
 options_are : (n : ℕ) (words : Words) (options : List Given) → options_at n words ≡ Some options → AreOptions (texts words) options × (length options ≡ n)
 options_are zero [] options e =
@@ -108,20 +122,27 @@ options_are (suc n) words options e =
     subst (λ os. AreOptions (texts words) os × (length os ≡ suc n)) (some_is (taken.0.0 ∷ others.0) options others.2)
     ((took.0, texts taken.0.1, took.1, took.2, more.0), omega (arith, more.1))
 
-up_to_is : (most n m : ℕ) → up_to most n ≡ Some m → (n ≡ m) × IsUpTo most m
-up_to_is most n m e =
-    elim (cond_some (nat_le 1 n && nat_le n most) (Some n) None m e) [
+-- the options of these names were read, and no more
+have : (wanted : List Given) (words : Words) (options : List Given) → AreApart wanted → options_at (length wanted) words ≡ Some options → AreFound wanted options
+    → HaveOptions (texts words) wanted
+have wanted words options apart read found =
+    let are = options_are (length wanted) words options read in
+    (options, are.0, in_order wanted options apart found are.1)
+
+within_is : (least most n m : ℕ) → within least most n ≡ Some m → (n ≡ m) × IsFromTo least most m
+within_is least most n m e =
+    elim (cond_some (nat_le least n && nat_le n most) (Some n) None m e) [
       | inl within ↦
-          let both = and_parts (nat_le 1 n) (nat_le n most) within.0 in
+          let both = and_parts (nat_le least n) (nat_le n most) within.0 in
           let same = some_is n m within.1 in
-          (same, subst (IsUpTo most) same (leb-true 1 n both.0, leb-true n most both.1))
+          (same, subst (IsFromTo least most) same (leb-true least n both.0, leb-true n most both.1))
       | inr other ↦ absurd (let no : None ≡ Some m = other.1 in cc)
     ]
 
-number_up_to : (most : ℕ) (o : Option ℕ) (m : ℕ) → (o >>= up_to most) ≡ Some m → (o ≡ Some m) × IsUpTo most m
-number_up_to most o m e =
-    let b = then_some o (up_to most) m e in
-    let is = up_to_is most b.0 m b.2 in
+number_within : (least most : ℕ) (o : Option ℕ) (m : ℕ) → (o >>= within least most) ≡ Some m → (o ≡ Some m) × IsFromTo least most m
+number_within least most o m e =
+    let b = then_some o (within least most) m e in
+    let is = within_is least most b.0 m b.2 in
     (b.1 ∙ ap (λ (n : ℕ). Some n) is.0, is.1)
 
 alone_is : (asked : Command) (words : Words) (c : Command) → alone asked words ≡ Some c → (words ≡ []) × (asked ≡ c)
@@ -140,26 +161,23 @@ unfolding make_at
 make_is word words c titled e =
     let options = then_some (options_at 3 words) _ c e in
     let seed = then_some (number_for name.Seed options.0) _ c options.2 in
-    let calls = then_some (number_for name.Calls options.0 >>= up_to MOST_LINES) _ c seed.2 in
-    let actors = then_some (number_for name.Actors options.0 >>= up_to MOST_ACTORS) _ c calls.2 in
-    let few = number_up_to MOST_LINES (number_for name.Calls options.0) calls.0 calls.1 in
-    let few_actors = number_up_to MOST_ACTORS (number_for name.Actors options.0) actors.0 actors.1 in
-    let read = options_are 3 words options.0 options.1 in
-    let ordered = three_in_order seed.0 calls.0 actors.0 options.0 seed.1 few.0 few_actors.0 read.1 in
+    let calls = then_some (number_for name.Calls options.0 >>= within 1 MOST_LINES) _ c seed.2 in
+    let actors = then_some (number_for name.Actors options.0 >>= within 1 MOST_ACTORS) _ c calls.2 in
+    let few = number_within 1 MOST_LINES (number_for name.Calls options.0) calls.0 calls.1 in
+    let few_actors = number_within 1 MOST_ACTORS (number_for name.Actors options.0) actors.0 actors.1 in
+    let read = have (make_options seed.0 calls.0 actors.0) words options.0 (make_apart seed.0 calls.0 actors.0) options.1 (seed.1, (few.0, (few_actors.0, tt))) in
     subst (Asks (texts (word ∷ words))) (some_is _ c actors.2)
-    (texts words, ap (λ t. t ∷ texts words) titled, (options.0, read.0, ordered), few.1, few_actors.1)
+    (texts words, ap (λ t. t ∷ texts words) titled, read, few.1, few_actors.1)
 
 demo_is : (word : Word) (words : Words) (c : Command) → word.items ≡ codes "demo" → demo_at words ≡ Some c → Asks (texts (word ∷ words)) c
 unfolding demo_at
 demo_is word words c titled e =
     let options = then_some (options_at 2 words) _ c e in
     let seed = then_some (number_for name.Seed options.0) _ c options.2 in
-    let calls = then_some (number_for name.Calls options.0 >>= up_to MOST_LINES) _ c seed.2 in
-    let few = number_up_to MOST_LINES (number_for name.Calls options.0) calls.0 calls.1 in
-    let read = options_are 2 words options.0 options.1 in
-    let ordered = two_in_order seed.0 calls.0 options.0 seed.1 few.0 read.1 in
-    subst (Asks (texts (word ∷ words))) (some_is _ c calls.2)
-    (texts words, ap (λ t. t ∷ texts words) titled, (options.0, read.0, ordered), few.1)
+    let calls = then_some (number_for name.Calls options.0 >>= within 1 MOST_LINES) _ c seed.2 in
+    let few = number_within 1 MOST_LINES (number_for name.Calls options.0) calls.0 calls.1 in
+    let read = have (demo_options seed.0 calls.0) words options.0 (demo_apart seed.0 calls.0) options.1 (seed.1, (few.0, tt)) in
+    subst (Asks (texts (word ∷ words))) (some_is _ c calls.2) (texts words, ap (λ t. t ∷ texts words) titled, read, few.1)
 
 titled : (word : Word) (title : List ℕ) → is_text word title ≡ true → word.items ≡ title
 titled word title e = (bytes_eq-Decides word.items title).0 e
@@ -190,32 +208,57 @@ asks (word ∷ words) c e =
 abbrev taken_as : Name → Words → ℕ → Option (Given × Words)
 taken_as n words number = Some (given n number, words)
 
+-- words that begin with a name's text begin with no option of a name before it in the table
+passed : (n : Name) (tail : List ℕ) (k : ℕ) (words : Words)
+    → (later : Option Taken) × (option_at (word_of (name_text n ++ tail) k ∷ words) ≡ or_else (option_of n (word_of (name_text n ++ tail) k ∷ words)) later)
+unfolding option_at
+passed name.Seed tail k words = (_, refl)
+passed name.Calls tail k words = (_, refl)
+passed name.Actors tail k words = (_, refl)
+passed name.Rate tail k words = (_, refl)
+passed name.Queue tail k words = (_, refl)
+passed name.Delay tail k words = (_, refl)
+passed name.Millis tail k words = (_, refl)
+passed name.Media tail k words = (_, refl)
+passed name.Rtx tail k words = (_, refl)
+passed name.Payload tail k words = (_, refl)
+passed name.Repeats tail k words = (_, refl)
+
+take_it : (n : Name) (tail : List ℕ) (k : ℕ) (words : Words) (taken : Taken) → option_of n (word_of (name_text n ++ tail) k ∷ words) ≡ Some taken
+    → option_at (word_of (name_text n ++ tail) k ∷ words) ≡ Some taken
+take_it n tail k words taken e = let at = passed n tail k words in at.1 ∙ ap (λ o. or_else o at.0) e
+
 -- the words behind those of an option
 take_two : (n : Name) (k : ℕ) (word : Word) (words : Words) (m : ℕ) → number_of word.items ≡ Some m
     → option_at (word_of (name_text n) k ∷ word ∷ words) ≡ Some (given n m, words)
-take_two name.Seed k word words m e =
-    subst (λ (o : Option ℕ). or_else (o >>= taken_as name.Seed words)
-    (or_else (option_of name.Calls (word_of (name_text name.Seed) k ∷ word ∷ words)) (option_of name.Actors (word_of (name_text name.Seed) k ∷ word ∷ words))) ≡ Some (given name.Seed m, words))
-    (sym e) refl
-take_two name.Calls k word words m e =
-    subst (λ (o : Option ℕ). or_else (o >>= taken_as name.Calls words)
-    (option_of name.Actors (word_of (name_text name.Calls) k ∷ word ∷ words)) ≡ Some (given name.Calls m, words))
-    (sym e) refl
-take_two name.Actors k word words m e =
-    subst (λ (o : Option ℕ). (o >>= taken_as name.Actors words) ≡ Some (given name.Actors m, words)) (sym e) refl
+take_two n k word words m e =
+    let named : is_text (word_of (name_text n) k) (name_text n) ≡ true = name_is_same n in
+    let read : option_of n (word_of (name_text n) k ∷ word ∷ words) ≡ Some (given n m, words) =
+    ap (λ b. cond b (in_two n (word ∷ words)) (in_one n (word_of (name_text n) k) (word ∷ words))) named ∙ ap (λ o. o >>= taken_as n words) e in
+    subst (λ t. option_of n (word_of t k ∷ word ∷ words) ≡ Some (given n m, words) → option_at (word_of t k ∷ word ∷ words) ≡ Some (given n m, words))
+    (append-nil (name_text n)) (take_it n [] k (word ∷ words) (given n m, words)) read
+
+front_stripped : (front rest : List ℕ) → stripped front (front ++ rest) ≡ Some rest
+front_stripped front rest =
+    let begins : pointwise nat_eq (take (length front) (front ++ rest)) front ≡ true =
+    (bytes_eq-Decides (take (length front) (front ++ rest)) front).1 (take_at front rest (length front) refl) in
+    ap (λ b. cond b (Some (drop (length front) (front ++ rest))) None) begins ∙ ap (λ xs. Some xs) (drop_at front rest (length front) refl)
+
+longer : (front rest : List ℕ) → 1 ≤ length rest → bytes_eq (front ++ rest) front ≡ false
+longer front rest some =
+    false_from_ne_true (bytes_eq (front ++ rest) front) (λ e.
+    let same : length (front ++ rest) ≡ length front = ap length ((bytes_eq-Decides (front ++ rest) front).0 e) in omega (arith, same, length-append front rest))
 
 take_one : (n : Name) (k : ℕ) (digits : List ℕ) (words : Words) (m : ℕ) → number_of digits ≡ Some m
     → option_at (word_of (name_text n ++ codes "=" ++ digits) k ∷ words) ≡ Some (given n m, words)
-take_one name.Seed k digits words m e =
-    subst (λ (o : Option ℕ). or_else (o >>= taken_as name.Seed words)
-    (or_else (option_of name.Calls (word_of (name_text name.Seed ++ codes "=" ++ digits) k ∷ words)) (option_of name.Actors (word_of (name_text name.Seed ++ codes "=" ++ digits) k ∷ words))) ≡ Some (given name.Seed m, words))
-    (sym e) refl
-take_one name.Calls k digits words m e =
-    subst (λ (o : Option ℕ). or_else (o >>= taken_as name.Calls words)
-    (option_of name.Actors (word_of (name_text name.Calls ++ codes "=" ++ digits) k ∷ words)) ≡ Some (given name.Calls m, words))
-    (sym e) refl
-take_one name.Actors k digits words m e =
-    subst (λ (o : Option ℕ). (o >>= taken_as name.Actors words) ≡ Some (given name.Actors m, words)) (sym e) refl
+take_one n k digits words m e =
+    let text = name_text n ++ (codes "=" ++ digits) in
+    let other : is_text (word_of text k) (name_text n) ≡ false = longer (name_text n) (codes "=" ++ digits) (omega arith) in
+    let name = ap (λ (o : Option (List ℕ)). o >>= (λ text. stripped (codes "=") text >>= (λ digits. number_of digits >>= taken_as n words))) (front_stripped (name_text n) (codes "=" ++ digits)) in
+    let sign = ap (λ (o : Option (List ℕ)). o >>= (λ digits. number_of digits >>= taken_as n words)) (front_stripped (codes "=") digits) in
+    subst (λ t. option_at (word_of t k ∷ words) ≡ Some (given n m, words)) (sym (append_assoc (name_text n) (codes "=") digits))
+    (take_it n (codes "=" ++ digits) k words (given n m, words)
+    (ap (λ b. cond b (in_two n words) (in_one n (word_of text k) words)) other ∙ (name ∙ (sign ∙ ap (λ o. o >>= taken_as n words) e))))
 
 abbrev Begins : Words → Given → List (List ℕ) → Type 0
 Begins words option rest = (left : Words) × (texts left ≡ rest) × (option_at words ≡ Some (option, left))
@@ -261,53 +304,36 @@ take_all words (option ∷ options) is =
     ap (λ o. o >>= (λ taken. options_at (length options) taken.1 >>= (λ more. Some (taken.0 ∷ more)))) one.2
     ∙ ap (λ o. o >>= (λ more. Some (option ∷ more))) others
 
-up_to_gives : (most m : ℕ) → IsUpTo most m → up_to most m ≡ Some m
-up_to_gives most m within = ap (λ b. cond b (Some m) None) (and_from (nat_le 1 m) (nat_le m most) (le-leb 1 m within.0) (le-leb m most within.1))
-
-number_within : (most m : ℕ) (o : Option ℕ) → o ≡ Some m → IsUpTo most m → (o >>= up_to most) ≡ Some m
-number_within most m o e within = ap (λ o. o >>= up_to most) e ∙ up_to_gives most m within
-
--- the numbers of options in any order
-find_two : (seed calls : ℕ) (options : List Given) → AreInAnyOrder (given name.Seed seed ∷ given name.Calls calls ∷ []) options
-    → (number_for name.Seed options ≡ Some seed) × (number_for name.Calls options ≡ Some calls)
-find_two seed calls options is = (
-  first_number name.Seed seed (given name.Calls calls ∷ []) options is (refl, tt),
-  number_behind name.Calls (given name.Seed seed) (given name.Calls calls ∷ []) options is refl ∙ first_number name.Calls calls [] (is.0 ++ is.1) is.3 tt,
+-- words that have these options: they are read, and each number is found
+had : (wanted : List Given) (words : Words) → AreApart wanted → HaveOptions (texts words) wanted
+    → (options : List Given) × (options_at (length wanted) words ≡ Some options) × AreFound wanted options
+had wanted words apart (options, are, ordered) = (
+  options,
+  subst (λ n. options_at n words ≡ Some options) (as_many wanted options ordered) (take_all words options are),
+  find_all wanted options apart ordered,
 )
 
-find_three : (seed calls actors : ℕ) (options : List Given) → AreInAnyOrder (given name.Seed seed ∷ given name.Calls calls ∷ given name.Actors actors ∷ []) options
-    → (number_for name.Seed options ≡ Some seed) × (number_for name.Calls options ≡ Some calls) × (number_for name.Actors options ≡ Some actors)
-find_three seed calls actors options is = (
-  first_number name.Seed seed (given name.Calls calls ∷ given name.Actors actors ∷ []) options is (refl, (refl, tt)),
-  number_behind name.Calls (given name.Seed seed) (given name.Calls calls ∷ given name.Actors actors ∷ []) options is refl
-      ∙ first_number name.Calls calls (given name.Actors actors ∷ []) (is.0 ++ is.1) is.3 (refl, tt),
-  number_behind name.Actors (given name.Seed seed) (given name.Calls calls ∷ given name.Actors actors ∷ []) options is refl
-      ∙ (number_behind name.Actors (given name.Calls calls) (given name.Actors actors ∷ []) (is.0 ++ is.1) is.3 refl
-      ∙ first_number name.Actors actors [] (is.3.0 ++ is.3.1) is.3.3 tt),
-)
+within_gives : (least most m : ℕ) (o : Option ℕ) → o ≡ Some m → IsFromTo least most m → (o >>= within least most) ≡ Some m
+within_gives least most m o e from_to =
+    ap (λ o. o >>= within least most) e
+    ∙ ap (λ b. cond b (Some m) None) (and_from (nat_le least m) (nat_le m most) (le-leb least m from_to.0) (le-leb m most from_to.1))
 
-make_read : (words : Words) (seed calls actors : ℕ) → HaveOptions (texts words) (given name.Seed seed ∷ given name.Calls calls ∷ given name.Actors actors ∷ [])
-    → IsUpTo MOST_LINES calls → IsUpTo MOST_ACTORS actors → make_at words ≡ Some (command.Make seed calls actors)
+make_read : (words : Words) (seed calls actors : ℕ) → HaveOptions (texts words) (make_options seed calls actors)
+    → IsFromTo 1 MOST_LINES calls → IsFromTo 1 MOST_ACTORS actors → make_at words ≡ Some (command.Make seed calls actors)
 unfolding make_at
-make_read words seed calls actors (options, are, ordered) few few_actors =
-    let many : length options ≡ 3 = as_many (given name.Seed seed ∷ given name.Calls calls ∷ given name.Actors actors ∷ []) options ordered in
-    let read : options_at 3 words ≡ Some options = subst (λ n. options_at n words ≡ Some options) many (take_all words options are) in
-    let numbers = find_three seed calls actors options ordered in
-    ap (λ o. o >>= (λ (os : List Given). number_for name.Seed os >>= (λ s. (number_for name.Calls os >>= up_to MOST_LINES) >>= (λ n. (number_for name.Actors os >>= up_to MOST_ACTORS) >>= (λ a. Some (command.Make s n a)))))) read
-    ∙ (ap (λ o. o >>= (λ s. (number_for name.Calls options >>= up_to MOST_LINES) >>= (λ n. (number_for name.Actors options >>= up_to MOST_ACTORS) >>= (λ a. Some (command.Make s n a))))) numbers.0
-    ∙ (ap (λ o. o >>= (λ n. (number_for name.Actors options >>= up_to MOST_ACTORS) >>= (λ a. Some (command.Make seed n a)))) (number_within MOST_LINES calls (number_for name.Calls options) numbers.1 few)
-    ∙ ap (λ o. o >>= (λ a. Some (command.Make seed calls a))) (number_within MOST_ACTORS actors (number_for name.Actors options) numbers.2 few_actors)))
+make_read words seed calls actors has few few_actors =
+    let (options, read, (seed_is, (calls_is, (actors_is, _)))) = had (make_options seed calls actors) words (make_apart seed calls actors) has in
+    let calls_in : (number_for name.Calls options >>= within 1 MOST_LINES) ≡ Some calls = within_gives 1 MOST_LINES calls (number_for name.Calls options) calls_is few in
+    let actors_in : (number_for name.Actors options >>= within 1 MOST_ACTORS) ≡ Some actors = within_gives 1 MOST_ACTORS actors (number_for name.Actors options) actors_is few_actors in
+    rw (read, seed_is, calls_in, actors_in)
 
-demo_read : (words : Words) (seed calls : ℕ) → HaveOptions (texts words) (given name.Seed seed ∷ given name.Calls calls ∷ [])
-    → IsUpTo MOST_LINES calls → demo_at words ≡ Some (command.Demo seed calls)
+demo_read : (words : Words) (seed calls : ℕ) → HaveOptions (texts words) (demo_options seed calls)
+    → IsFromTo 1 MOST_LINES calls → demo_at words ≡ Some (command.Demo seed calls)
 unfolding demo_at
-demo_read words seed calls (options, are, ordered) few =
-    let many : length options ≡ 2 = as_many (given name.Seed seed ∷ given name.Calls calls ∷ []) options ordered in
-    let read : options_at 2 words ≡ Some options = subst (λ n. options_at n words ≡ Some options) many (take_all words options are) in
-    let numbers = find_two seed calls options ordered in
-    ap (λ o. o >>= (λ (os : List Given). number_for name.Seed os >>= (λ s. (number_for name.Calls os >>= up_to MOST_LINES) >>= (λ n. Some (command.Demo s n))))) read
-    ∙ (ap (λ o. o >>= (λ s. (number_for name.Calls options >>= up_to MOST_LINES) >>= (λ n. Some (command.Demo s n)))) numbers.0
-    ∙ ap (λ o. o >>= (λ n. Some (command.Demo seed n))) (number_within MOST_LINES calls (number_for name.Calls options) numbers.1 few))
+demo_read words seed calls has few =
+    let (options, read, (seed_is, (calls_is, _))) = had (demo_options seed calls) words (demo_apart seed calls) has in
+    let calls_in : (number_for name.Calls options >>= within 1 MOST_LINES) ≡ Some calls = within_gives 1 MOST_LINES calls (number_for name.Calls options) calls_is few in
+    rw (read, seed_is, calls_in)
 
 -- a word of these bytes, and words behind it
 abbrev AreTitled : Words → List ℕ → List (List ℕ) → Type 0
@@ -334,8 +360,8 @@ reads words command.Check is =
 reads words (command.Make seed calls actors) is =
     let at = are_titled words (codes "make") is.0 is.1 in
     ap command_of at.2
-    ∙ make_read at.1 seed calls actors (subst (λ ts. HaveOptions ts (given name.Seed seed ∷ given name.Calls calls ∷ given name.Actors actors ∷ [])) (sym at.3) is.2) is.3 is.4
+    ∙ make_read at.1 seed calls actors (subst (λ ts. HaveOptions ts (make_options seed calls actors)) (sym at.3) is.2) is.3 is.4
 reads words (command.Demo seed calls) is =
     let at = are_titled words (codes "demo") is.0 is.1 in
     ap command_of at.2
-    ∙ demo_read at.1 seed calls (subst (λ ts. HaveOptions ts (given name.Seed seed ∷ given name.Calls calls ∷ [])) (sym at.3) is.2) is.3
+    ∙ demo_read at.1 seed calls (subst (λ ts. HaveOptions ts (demo_options seed calls)) (sym at.3) is.2) is.3

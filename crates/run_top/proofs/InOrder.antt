@@ -1,10 +1,13 @@
 -- Options in any order, and the number of each among them.
-use Rattle.std.proofs.Common.{◌≡◌, ℕ, ◌+◌, suc, Bool, true, false, cond, List, [], ◌∷◌, ◌++◌, length, length-append, Option, None, Some, inl, inr, ◌⊎◌, refl, sym, ap, subst, ◌∙◌, arith}
+use Rattle.std.proofs.Common.{◌≡◌, ℕ, ◌+◌, Bool, true, false, true≢false, cond, List, [], ◌∷◌, ◌++◌, length, length-append, Option, None, Some, inl, inr, ◌⊎◌, refl, sym, ap, subst, ◌∙◌, arith}
+use Rattle.std.specs.Str.{bytes_eq}
+use Rattle.std.proofs.lemmas.Bool.{false_from_ne_true}
 use Rattle.std.proofs.lemmas.List.{nil_from_length}
+use Rattle.std.proofs.lemmas.Slice.Eq.{bytes_eq-Decides}
 use Rattle.run_top.specs.declared.options.Name.{Name}
 use Rattle.run_top.specs.declared.options.Name.TheVariants as name
 use Rattle.run_top.specs.declared.options.Given.{Given}
-use Rattle.run_top.specs.Words.{same_name, given, number_for}
+use Rattle.run_top.specs.Words.{names, name_text, same_name, given, number_for}
 use Rattle.run_top.specs.Asking.{AreInAnyOrder}
 
 pub cond_some : {A : Type 0} (b : Bool) (x y : Option A) (v : A) → cond b x y ≡ Some v → ((b ≡ true) × (x ≡ Some v)) ⊎ ((b ≡ false) × (y ≡ Some v))
@@ -15,21 +18,36 @@ cond_none : {A : Type 0} (b : Bool) (v : A) (y : Option A) → cond b (Some v) y
 cond_none true v y e = absurd cc
 cond_none false v y e = (refl, e)
 
-same_name_is : (a b : Name) → same_name a b ≡ true → a ≡ b
-same_name_is name.Seed name.Seed e = refl
-same_name_is name.Seed name.Calls e = absurd cc
-same_name_is name.Seed name.Actors e = absurd cc
-same_name_is name.Calls name.Seed e = absurd cc
-same_name_is name.Calls name.Calls e = refl
-same_name_is name.Calls name.Actors e = absurd cc
-same_name_is name.Actors name.Seed e = absurd cc
-same_name_is name.Actors name.Calls e = absurd cc
-same_name_is name.Actors name.Actors e = refl
+-- the first of these names that has the text
+named : List Name → List ℕ → Option Name
+named [] text = None
+named (n ∷ ns) text = cond (bytes_eq (name_text n) text) (Some n) (named ns text)
 
-name_is_same : (a : Name) → same_name a a ≡ true
-name_is_same name.Seed = refl
-name_is_same name.Calls = refl
-name_is_same name.Actors = refl
+-- each name stands in the table, and no other has its text
+is_named : (n : Name) → named names (name_text n) ≡ Some n
+unfolding named
+is_named name.Seed = refl
+is_named name.Calls = refl
+is_named name.Actors = refl
+is_named name.Rate = refl
+is_named name.Queue = refl
+is_named name.Delay = refl
+is_named name.Millis = refl
+is_named name.Media = refl
+is_named name.Rtx = refl
+is_named name.Payload = refl
+is_named name.Repeats = refl
+
+pub same_name_is : (a b : Name) → same_name a b ≡ true → a ≡ b
+same_name_is a b e =
+    let both : Some a ≡ Some b = sym (is_named a) ∙ (ap (named names) ((bytes_eq-Decides (name_text a) (name_text b)).0 e) ∙ is_named b) in cc
+
+pub name_is_same : (a : Name) → same_name a a ≡ true
+name_is_same a = (bytes_eq-Decides (name_text a) (name_text a)).1 refl
+
+other_way : (a b : Name) → same_name a b ≡ false → same_name b a ≡ false
+other_way a b apart =
+    false_from_ne_true (same_name b a) (λ same. true≢false (sym (name_is_same a) ∙ (ap (same_name a) (sym (same_name_is b a same)) ∙ apart)))
 
 number_is_some : (a b : ℕ) → Some a ≡ Some b → a ≡ b
 number_is_some a b e = cc
@@ -65,12 +83,8 @@ lacking : (n : Name) (gs options : List Given) → AreInAnyOrder gs options → 
 lacking n [] options is others = ap (number_for n) is
 lacking n (g ∷ gs) options is others = ap (number_for n) is.2 ∙ (without n g is.0 is.1 others.0 ∙ lacking n gs (is.0 ++ is.1) is.3 others.1)
 
-pub first_number : (n : Name) (m : ℕ) (gs options : List Given) → AreInAnyOrder (given n m ∷ gs) options → AreOther n gs → number_for n options ≡ Some m
-first_number n m gs options is others = ap (number_for n) is.2 ∙ inserted n m is.0 is.1 (lacking n gs (is.0 ++ is.1) is.3 others)
-
-pub number_behind : (n : Name) (g : Given) (gs options : List Given) (is : AreInAnyOrder (g ∷ gs) options) → same_name g.name n ≡ false
-    → number_for n options ≡ number_for n (is.0 ++ is.1)
-number_behind n g gs options is other = ap (number_for n) is.2 ∙ without n g is.0 is.1 other
+first_number : (g : Given) (gs options : List Given) → AreInAnyOrder (g ∷ gs) options → AreOther g.name gs → number_for g.name options ≡ Some g.number
+first_number g gs options is others = ap (number_for g.name) is.2 ∙ inserted g.name g.number is.0 is.1 (lacking g.name gs (is.0 ++ is.1) is.3 others)
 
 between : (g : Given) (front back : List Given) → length (front ++ g ∷ back) ≡ 1 + length (front ++ back)
 between g front back = omega (arith, length-append front (g ∷ back), length-append front back)
@@ -81,29 +95,38 @@ as_many (g ∷ gs) options is =
     let all : length options ≡ 1 + length (is.0 ++ is.1) = ap length is.2 ∙ between g is.0 is.1 in
     omega (arith, all, as_many gs (is.0 ++ is.1) is.3)
 
--- ---- each number is found, and there are no more options
+-- no two of them have the same name
+abbrev pub AreApart : List Given → Type 0
+AreApart [] = Unit {0}
+AreApart (g ∷ gs) = AreOther g.name gs × AreApart gs
 
-no_option : (options : List Given) → length options ≡ 0 → AreInAnyOrder [] options
-no_option options none = nil_from_length options none
+-- the number of each is found among these options
+abbrev pub AreFound : List Given → List Given → Type 0
+AreFound [] options = Unit {0}
+AreFound (g ∷ gs) options = (number_for g.name options ≡ Some g.number) × AreFound gs options
 
-one_more : (n : Name) (m : ℕ) (gs options : List Given) (k : ℕ) → number_for n options ≡ Some m → length options ≡ 1 + k
-    → ((others : List Given) → length others ≡ k → ((o : Name) → same_name n o ≡ false → number_for o options ≡ number_for o others) → AreInAnyOrder gs others)
-    → AreInAnyOrder (given n m ∷ gs) options
-one_more n m gs options k e long rest =
-    let at = found n m options e in
-    let all : length options ≡ 1 + length (at.0 ++ at.1) = ap length at.2 ∙ between (given n m) at.0 at.1 in
-    (at.0, at.1, at.2, rest (at.0 ++ at.1) (omega arith) (λ o other. ap (number_for o) at.2 ∙ without o (given n m) at.0 at.1 other))
+-- an option of another name hides no number
+more : (g : Given) (front back gs : List Given) → AreOther g.name gs → AreFound gs (front ++ back) → AreFound gs (front ++ g ∷ back)
+more g front back [] others are = tt
+more g front back (h ∷ gs) others are =
+    (without h.name g front back (other_way h.name g.name others.0) ∙ are.0, more g front back gs others.1 are.1)
 
-pub two_in_order : (seed calls : ℕ) (options : List Given) → number_for name.Seed options ≡ Some seed → number_for name.Calls options ≡ Some calls → length options ≡ 2
-    → AreInAnyOrder (given name.Seed seed ∷ given name.Calls calls ∷ []) options
-two_in_order seed calls options s c long =
-    one_more name.Seed seed (given name.Calls calls ∷ []) options 1 s long (λ one one_left same.
-    one_more name.Calls calls [] one 0 (sym (same name.Calls refl) ∙ c) one_left (λ none none_left same'. no_option none none_left))
+fewer : (g : Given) (front back gs : List Given) → AreOther g.name gs → AreFound gs (front ++ g ∷ back) → AreFound gs (front ++ back)
+fewer g front back [] others are = tt
+fewer g front back (h ∷ gs) others are =
+    (sym (without h.name g front back (other_way h.name g.name others.0)) ∙ are.0, fewer g front back gs others.1 are.1)
 
-pub three_in_order : (seed calls actors : ℕ) (options : List Given) → number_for name.Seed options ≡ Some seed → number_for name.Calls options ≡ Some calls
-    → number_for name.Actors options ≡ Some actors → length options ≡ 3
-    → AreInAnyOrder (given name.Seed seed ∷ given name.Calls calls ∷ given name.Actors actors ∷ []) options
-three_in_order seed calls actors options s c a long =
-    one_more name.Seed seed (given name.Calls calls ∷ given name.Actors actors ∷ []) options 2 s long (λ two two_left same.
-    one_more name.Calls calls (given name.Actors actors ∷ []) two 1 (sym (same name.Calls refl) ∙ c) two_left (λ one one_left same'.
-    one_more name.Actors actors [] one 0 (sym (same' name.Actors refl) ∙ (sym (same name.Actors refl) ∙ a)) one_left (λ none none_left same''. no_option none none_left)))
+pub find_all : (wanted options : List Given) → AreApart wanted → AreInAnyOrder wanted options → AreFound wanted options
+find_all [] options apart is = tt
+find_all (g ∷ gs) options apart is = (
+  first_number g gs options is apart.0,
+  subst (AreFound gs) (sym is.2) (more g is.0 is.1 gs apart.0 (find_all gs (is.0 ++ is.1) apart.1 is.3)),
+)
+
+-- where each number is found, and there are no more options
+pub in_order : (wanted options : List Given) → AreApart wanted → AreFound wanted options → length options ≡ length wanted → AreInAnyOrder wanted options
+in_order [] options apart are long = nil_from_length options long
+in_order (g ∷ gs) options apart are long =
+    let at = found g.name g.number options are.0 in
+    let all : length options ≡ 1 + length (at.0 ++ at.1) = ap length at.2 ∙ between g at.0 at.1 in
+    (at.0, at.1, at.2, in_order gs (at.0 ++ at.1) apart.1 (fewer g at.0 at.1 gs apart.0 (subst (AreFound gs) at.2 are.1)) (omega (arith, all, long)))

@@ -9,6 +9,7 @@ pub mod Rates
 pub mod Outcomes
 pub mod Made
 pub mod Decimals
+pub mod Taking
 pub mod InOrder
 pub mod Asked
 pub mod OwnLines

@@ -1,5 +1,5 @@
 -- The count of own lines in a line.
-use Rattle.std.proofs.Common.{◌≡◌, ◌≢◌, ℕ, ◌+◌, cond, eqb, eq-eqb, ne_eqb, [], ◌∷◌, ap}
+use Rattle.std.proofs.Common.{◌≡◌, ◌≢◌, ℕ, ◌+◌, cond, eq-eqb, ne_eqb, [], ◌∷◌, ap}
 use Rattle.call_trace.specs.declared.trace.Line.{Line}
 use Rattle.run_top.specs.OwnLines.{own_lines}
 

@@ -7,7 +7,7 @@ use Rattle.run_top.specs.declared.words.Command.{Command}
 use Rattle.run_top.specs.declared.words.Command.TheVariants as command
 use Rattle.run_top.specs.declared.options.Name.TheVariants as name
 use Rattle.run_top.specs.declared.options.Given.{Given}
-use Rattle.run_top.specs.Words.{name_text, given, IsUpTo}
+use Rattle.run_top.specs.Words.{name_text, given, IsFromTo}
 
 -- a number in decimal: digits without a leading zero, and their value, which is below 2^64
 pub record IsNumberText (text : List ℕ) (n : ℕ) : Type 0 where
@@ -50,7 +50,7 @@ Asks words command.Check = words ≡ codes "check" ∷ []
 Asks words (command.Make seed calls actors) =
     (rest : List (List ℕ)) × (words ≡ codes "make" ∷ rest)
     × HaveOptions rest (given name.Seed seed ∷ given name.Calls calls ∷ given name.Actors actors ∷ [])
-    × IsUpTo MOST_LINES calls × IsUpTo MOST_ACTORS actors
+    × IsFromTo 1 MOST_LINES calls × IsFromTo 1 MOST_ACTORS actors
 Asks words (command.Demo seed calls) =
     (rest : List (List ℕ)) × (words ≡ codes "demo" ∷ rest)
-    × HaveOptions rest (given name.Seed seed ∷ given name.Calls calls ∷ []) × IsUpTo MOST_LINES calls
+    × HaveOptions rest (given name.Seed seed ∷ given name.Calls calls ∷ []) × IsFromTo 1 MOST_LINES calls

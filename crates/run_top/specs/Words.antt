@@ -1,5 +1,5 @@
 -- The words that are accepted, and what they ask for.
-use Rattle.std.specs.Prelude.{ℕ, ◌≤◌, ◌&&◌, nat_le, nat_eq, if◌then◌else◌, Bool, true, false, Option, None, Some, zero, suc, List, [], ◌∷◌, take, drop, length, codes}
+use Rattle.std.specs.Prelude.{ℕ, ◌≤◌, ◌&&◌, nat_le, nat_eq, if◌then◌else◌, Bool, Option, None, Some, zero, suc, List, [], ◌∷◌, take, drop, length, codes}
 use Rattle.std.specs.Str.{bytes_eq}
 use Rattle.std.specs.Cmp.Lexicographic.{pointwise}
 use Rattle.gcc_units.specs.Listed.{Listed}
@@ -21,21 +21,27 @@ is_text word bytes = bytes_eq word.items bytes
 
 -- ---- options
 
+-- the names of all options
+abbrev pub names : List Name
+names =
+    name.Seed ∷ name.Calls ∷ name.Actors ∷ name.Rate ∷ name.Queue ∷ name.Delay ∷ name.Millis
+    ∷ name.Media ∷ name.Rtx ∷ name.Payload ∷ name.Repeats ∷ []
+
 abbrev pub name_text : Name → List ℕ
 name_text name.Seed = codes "--seed"
 name_text name.Calls = codes "--calls"
 name_text name.Actors = codes "--actors"
+name_text name.Rate = codes "--rate"
+name_text name.Queue = codes "--queue"
+name_text name.Delay = codes "--delay"
+name_text name.Millis = codes "--millis"
+name_text name.Media = codes "--media"
+name_text name.Rtx = codes "--rtx"
+name_text name.Payload = codes "--payload"
+name_text name.Repeats = codes "--repeats"
 
 abbrev pub same_name : Name → Name → Bool
-same_name name.Seed name.Seed = true
-same_name name.Seed name.Calls = false
-same_name name.Seed name.Actors = false
-same_name name.Calls name.Seed = false
-same_name name.Calls name.Calls = true
-same_name name.Calls name.Actors = false
-same_name name.Actors name.Seed = false
-same_name name.Actors name.Calls = false
-same_name name.Actors name.Actors = true
+same_name a b = bytes_eq (name_text a) (name_text b)
 
 -- an option, and the words behind it
 abbrev pub Taken : Type 0
@@ -72,9 +78,14 @@ abbrev pub or_else : {A : Type 0} → Option A → Option A → Option A
 or_else None other = other
 or_else (Some x) other = Some x
 
+-- the option that words begin with, where its name is one of these
+abbrev pub option_among : List Name → List (Listed ℕ) → Option Taken
+option_among [] words = None
+option_among (name ∷ names) words = or_else (option_of name words) (option_among names words)
+
 -- the option that words begin with
-abbrev pub option_at : List (Listed ℕ) → Option Taken
-option_at words = or_else (option_of name.Seed words) (or_else (option_of name.Calls words) (option_of name.Actors words))
+unfoldable pub option_at : List (Listed ℕ) → Option Taken
+option_at words = option_among names words
 
 -- so many options, and nothing behind them
 abbrev pub options_at : ℕ → List (Listed ℕ) → Option (List Given)
@@ -90,9 +101,9 @@ abbrev pub number_for : Name → List Given → Option ℕ
 number_for name [] = None
 number_for name (first ∷ others) = if same_name first.name name then Some first.number else number_for name others
 
--- a number from 1 to the most
-abbrev pub up_to : ℕ → ℕ → Option ℕ
-up_to most n = if nat_le 1 n && nat_le n most then Some n else None
+-- a number from the least to the most
+abbrev pub within : ℕ → ℕ → ℕ → Option ℕ
+within least most n = if nat_le least n && nat_le n most then Some n else None
 
 -- ---- commands
 
@@ -105,8 +116,8 @@ unfoldable pub make_at : List (Listed ℕ) → Option Command
 make_at words = do
   options ← options_at 3 words
   seed ← number_for name.Seed options
-  calls ← number_for name.Calls options >>= up_to MOST_LINES
-  actors ← number_for name.Actors options >>= up_to MOST_ACTORS
+  calls ← number_for name.Calls options >>= within 1 MOST_LINES
+  actors ← number_for name.Actors options >>= within 1 MOST_ACTORS
   Some (command.Make seed calls actors)
 
 -- the options of `demo`, each once
@@ -114,7 +125,7 @@ unfoldable pub demo_at : List (Listed ℕ) → Option Command
 demo_at words = do
   options ← options_at 2 words
   seed ← number_for name.Seed options
-  calls ← number_for name.Calls options >>= up_to MOST_LINES
+  calls ← number_for name.Calls options >>= within 1 MOST_LINES
   Some (command.Demo seed calls)
 
 -- what words ask for, if they are accepted
@@ -128,17 +139,17 @@ command_of (word ∷ words) =
     else if is_text word (codes "demo") then demo_at words
     else None
 
--- a number from 1 to the most
-abbrev pub IsUpTo : ℕ → ℕ → Type 0
-IsUpTo most n = (1 ≤ n) × (n ≤ most)
+-- a number from the least to the most
+abbrev pub IsFromTo : ℕ → ℕ → ℕ → Type 0
+IsFromTo least most n = (least ≤ n) × (n ≤ most)
 
 -- the numbers of a command are within the limits
 abbrev pub IsWithin : Command → Type 0
 IsWithin command.Replay = Unit {0}
 IsWithin command.Race = Unit {0}
 IsWithin command.Check = Unit {0}
-IsWithin (command.Make seed calls actors) = IsUpTo MOST_LINES calls × IsUpTo MOST_ACTORS actors
-IsWithin (command.Demo seed calls) = IsUpTo MOST_LINES calls
+IsWithin (command.Make seed calls actors) = IsFromTo 1 MOST_LINES calls × IsFromTo 1 MOST_ACTORS actors
+IsWithin (command.Demo seed calls) = IsFromTo 1 MOST_LINES calls
 
 -- a race waits
 abbrev pub unless_race : Command → Option Command

@@ -1,7 +1,7 @@
 //! The options of a command: a name and a number, as two words or as one with `=`.
 
 ghost use Rattle.std.specs.Prelude.{◌≡◌, None, Some, IfSome, IfNone};
-ghost use Rattle.run_top.specs.Words.{name_text, same_name, in_two, in_one, option_of, option_at, options_at, number_for, up_to, IsUpTo};
+ghost use Rattle.run_top.specs.Words.{name_text, same_name, in_two, in_one, option_of, option_at, options_at, number_for, within, IsFromTo};
 
 use call_trace::number;
 use gcc_units::Bytes;
@@ -15,7 +15,38 @@ pub enum Name {
     Calls,
     /// `--actors`
     Actors,
+    /// `--rate`
+    Rate,
+    /// `--queue`
+    Queue,
+    /// `--delay`
+    Delay,
+    /// `--millis`
+    Millis,
+    /// `--media`
+    Media,
+    /// `--rtx`
+    Rtx,
+    /// `--payload`
+    Payload,
+    /// `--repeats`
+    Repeats,
 }
+
+/// The names of all options.
+const NAMES: [Name; 11] = [
+    Name::Seed,
+    Name::Calls,
+    Name::Actors,
+    Name::Rate,
+    Name::Queue,
+    Name::Delay,
+    Name::Millis,
+    Name::Media,
+    Name::Rtx,
+    Name::Payload,
+    Name::Repeats,
+];
 
 /// An option.
 #[derive(Clone, Copy, PartialEq, Eq, Debug)]
@@ -31,6 +62,14 @@ fn name_text(name: Name) -> &'static [u8]
         Name::Seed => b"--seed",
         Name::Calls => b"--calls",
         Name::Actors => b"--actors",
+        Name::Rate => b"--rate",
+        Name::Queue => b"--queue",
+        Name::Delay => b"--delay",
+        Name::Millis => b"--millis",
+        Name::Media => b"--media",
+        Name::Rtx => b"--rtx",
+        Name::Payload => b"--payload",
+        Name::Repeats => b"--repeats",
     }
 }
 
@@ -77,42 +116,36 @@ fn option_of(words: &[Bytes], name: Name) -> Option<(Given, &[Bytes])>
 }
 
 /// The option that words begin with, and the words behind it.
+#[tactic(auto, unfolding(crate::specs::Words::option_at))]
 fn option(words: &[Bytes]) -> Option<(Given, &[Bytes])>
     ensures some { IfSome result (λ p. option_at words.now ≡ Some (p.0, p.1.now)) }
     ensures none { IfNone result (option_at words.now ≡ None) }
 {
-    if let Some(taken) = option_of(words, Name::Seed) {
-        return Some(taken);
+    for name in NAMES {
+        if let Some(taken) = option_of(words, name) {
+            return Some(taken);
+        }
     }
-    if let Some(taken) = option_of(words, Name::Calls) {
-        return Some(taken);
-    }
-    option_of(words, Name::Actors)
+    None
 }
 
-/// Two options, and nothing behind them.
-pub fn two(words: &[Bytes]) -> Option<[Given; 2]>
-    ensures some { IfSome result (λ options. options_at 2 words.now ≡ Some options) }
-    ensures none { IfNone result (options_at 2 words.now ≡ None) }
+/// So many options, and nothing behind them.
+pub fn read_options<const N: usize>(words: &[Bytes]) -> Option<[Given; N]>
+    ensures some { IfSome result (λ options. options_at N words.now ≡ Some options) }
+    ensures none { IfNone result (options_at N words.now ≡ None) }
 {
-    let (first, rest) = option(words)?;
-    let (second, rest) = option(rest)?;
-    match rest {
-        [] => Some([first, second]),
-        [_, ..] => None,
+    let mut options = [Given {
+        name: Name::Seed,
+        number: 0,
+    }; N];
+    let mut rest = words;
+    for place in 0..N {
+        let (taken, behind) = option(rest)?;
+        options[place] = taken;
+        rest = behind;
     }
-}
-
-/// Three options, and nothing behind them.
-pub fn three(words: &[Bytes]) -> Option<[Given; 3]>
-    ensures some { IfSome result (λ options. options_at 3 words.now ≡ Some options) }
-    ensures none { IfNone result (options_at 3 words.now ≡ None) }
-{
-    let (first, rest) = option(words)?;
-    let (second, rest) = option(rest)?;
-    let (third, rest) = option(rest)?;
     match rest {
-        [] => Some([first, second, third]),
+        [] => Some(options),
         [_, ..] => None,
     }
 }
@@ -129,13 +162,13 @@ pub fn number_for(options: &[Given], name: Name) -> Option<u64>
     None
 }
 
-/// The number, where it is from 1 to the most.
-pub fn up_to(most: u32, number: u64) -> Option<u32>
-    ensures number { result ≡ up_to most number }
-    ensures within { IfSome result (λ n. IsUpTo most n) }
+/// The number, where it is from the least to the most.
+pub fn within(least: u64, most: u64, number: u64) -> Option<u64>
+    ensures number { result ≡ within least most number }
+    ensures within { IfSome result (λ n. IsFromTo least most n) }
 {
-    if 1 <= number && number <= u64::from(most) {
-        Some(number as u32)
+    if least <= number && number <= most {
+        Some(number)
     } else {
         None
     }

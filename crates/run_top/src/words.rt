@@ -3,7 +3,7 @@
 ghost use Rattle.std.specs.Prelude.{◌≡◌, IfSome};
 ghost use Rattle.run_top.specs.Words.{is_text, alone, make_at, demo_at, command_of, IsWithin};
 
-use crate::options::{Name, number_for, three, two, up_to};
+use crate::options::{Name, number_for, read_options, within};
 use gcc_units::{Bytes, MOST_ACTORS, MOST_LINES, Sequence};
 
 /// The words of a command line, without the program's name.
@@ -46,14 +46,18 @@ fn make(words: &[Bytes]) -> Option<Command>
     ensures asked { result ≡ make_at words.now }
     ensures within { IfSome result IsWithin }
 {
-    let options = three(words)?;
+    let options = read_options::<3>(words)?;
     let seed = number_for(&options, Name::Seed)?;
-    let calls = up_to(MOST_LINES, number_for(&options, Name::Calls)?)?;
-    let actors = up_to(MOST_ACTORS, number_for(&options, Name::Actors)?)?;
+    let calls = within(1, u64::from(MOST_LINES), number_for(&options, Name::Calls)?)?;
+    let actors = within(
+        1,
+        u64::from(MOST_ACTORS),
+        number_for(&options, Name::Actors)?,
+    )?;
     Some(Command::Make {
         seed,
-        calls,
-        actors,
+        calls: calls as u32,
+        actors: actors as u32,
     })
 }
 
@@ -62,10 +66,13 @@ fn demo(words: &[Bytes]) -> Option<Command>
     ensures asked { result ≡ demo_at words.now }
     ensures within { IfSome result IsWithin }
 {
-    let options = two(words)?;
+    let options = read_options::<2>(words)?;
     let seed = number_for(&options, Name::Seed)?;
-    let calls = up_to(MOST_LINES, number_for(&options, Name::Calls)?)?;
-    Some(Command::Demo { seed, calls })
+    let calls = within(1, u64::from(MOST_LINES), number_for(&options, Name::Calls)?)?;
+    Some(Command::Demo {
+        seed,
+        calls: calls as u32,
+    })
 }
 
 /// What the words ask for, where they are accepted.

@@ -17,3 +17,4 @@ pub mod ClusterDeeds
 pub mod Rising
 pub mod Finding
 pub mod Filling
+pub mod Arriving

@@ -2,6 +2,7 @@ pub mod Spans
 pub mod Budgets
 pub mod Order
 pub mod Credits
+pub mod InRange
 pub mod Moments
 pub mod Probes
 pub mod ProbeSends

@@ -1,8 +1,9 @@
 //! Laws of every legal history of a sender, whatever calls made it. Each is the contract of a
 //! function that does nothing.
 
-ghost use Rattle.std.specs.Prelude.{◌≡◌, ◌≢◌, ℕ, ◌+◌, ◌*◌, ◌≤◌, ◌↔◌, Some, None, List, [], ◌∷◌, ◌++◌, length, map, slice_index, AllPairs, Contains};
-ghost use Rattle.gcc_units.specs.declared.limits.TheConstants.{GREATEST_MOMENT};
+ghost use Rattle.std.specs.Prelude.{◌≡◌, ◌≢◌, ℕ, ◌+◌, ◌*◌, ◌≤◌, ◌↔◌, Some, None, List, [], ◌∷◌, ◌++◌, length, map, slice_index, All, AllPairs, Contains};
+ghost use Rattle.gcc_units.specs.declared.limits.TheConstants.{GREATEST_MOMENT, MOST_PACKETS};
+ghost use Rattle.packet_groups.specs.Kept.{IsWithin};
 ghost use Rattle.twcc_report.specs.Spelling.{Feedback};
 ghost use Rattle.sent_history.specs.Crediting.{account, outstanding};
 ghost use Rattle.sent_history.specs.Balance.{IsOutstanding, IsNamedReceived, expired};
@@ -13,9 +14,12 @@ ghost use Rattle.send_core.specs.Reply.{IsLegal};
 ghost use Rattle.send_core.specs.Reports.{events};
 ghost use Rattle.send_laws.specs.Credits.{Brings, credits, number_of, credited_numbers, AreByteReports};
 ghost use Rattle.send_laws.specs.Fills.{IsLeastFill};
+ghost use Rattle.send_laws.specs.InRange.{all_credits};
 ghost use Rattle.send_laws.specs.Order.{AreInOrder, AreFresh, AreNumbered};
 ghost use Rattle.send_laws.specs.Probes.{planned_rate, probe_sizes, probe_moments, before_last, last_of, time_over};
 ghost use Rattle.send_laws.specs.Spans.{media_bytes, spent_bytes, last_media, integral, padding_bytes, last_padding, padding_integral};
+
+use twcc_report::reading_is_by_checks;
 
 /// Law: the packets of a pace leave by priority and then by arrival: each record is of the packet
 /// that goes next among the accepted ones that no record so far is of, and of none only where none
@@ -98,6 +102,15 @@ pub fn packets_balance()
     ensures { (history : List Entry) → IsLegal history → AreByteReports history
         → length (sent history) ≡ length (credited_numbers history) + outstanding (events history) + expired (events history) }
 {}
+
+/// Law: the credits that the replies of a history list are few, and each was sent and arrived within
+/// what packet groups take. A history's reports are lists of bytes.
+pub fn credits_are_in_range()
+    ensures few { (history : List Entry) → IsLegal history → AreByteReports history → length (all_credits history) ≤ MOST_PACKETS }
+    ensures within { (history : List Entry) → IsLegal history → AreByteReports history → All IsWithin (all_credits history) }
+{
+    reading_is_by_checks();
+}
 
 /// Law: the bytes of a probe cluster before its last packet are no more than its rate comes to from
 /// its first packet to its last (in micro-bits; 8,000,000 a byte). The first is no later than the

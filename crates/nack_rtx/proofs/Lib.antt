@@ -4,3 +4,7 @@ pub mod Pairs
 pub mod Headers
 pub mod Outcomes
 pub mod Told
+pub mod Account
+pub mod Kept
+pub mod Judged
+pub mod Working

@@ -3,3 +3,8 @@ pub mod Running
 pub mod Spelling
 pub mod Reading
 pub mod Checks
+pub mod Packets
+pub mod Resending
+pub mod Held
+pub mod Keeping
+pub mod Answering

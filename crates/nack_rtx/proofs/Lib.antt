@@ -8,3 +8,5 @@ pub mod Account
 pub mod Kept
 pub mod Judged
 pub mod Working
+pub mod Yields
+pub mod Repeats

@@ -8,3 +8,4 @@ pub mod Resending
 pub mod Held
 pub mod Keeping
 pub mod Answering
+pub mod Yielding

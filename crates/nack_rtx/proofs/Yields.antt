@@ -35,7 +35,7 @@ last_or seq at q qs (Some place) told = record {
   inside = omega (arith, told.inside);
   number = let e : place - at ≡ suc (place - (at + 1)) = omega (arith, told.low) in ap (λ k. field16 2 (get_or (q ∷ qs) k [])) e ∙ told.number;
   last = λ k. elim k as (λ j. place - at < j → j < length (q ∷ qs) → field16 2 (get_or (q ∷ qs) j []) ≢ seq)
-    [ zero ↦ λ lt inside. absurd (omega (arith, lt)) | suc j ↦ λ lt inside. told.last j (omega (arith, lt, told.low)) (omega (arith, inside)) ];
+      [ zero ↦ λ lt inside. absurd (omega (arith, lt)) | suc j ↦ λ lt inside. told.last j (omega (arith, lt, told.low)) (omega (arith, inside)) ];
 }
 last_or seq at q qs None told = elim (cases_eq (field16 2 q) seq) [
   | inl same ↦ rw (eq-eqb (field16 2 q) seq same) (record {
@@ -51,6 +51,7 @@ last_or seq at q qs None told = elim (cases_eq (field16 2 q) seq) [
         → (k : ℕ) → at - at < k → k < length (q ∷ qs) → field16 2 (get_or (q ∷ qs) k []) ≢ seq
     after_first seq at q qs told zero lt inside = absurd (omega (arith, lt))
     after_first seq at q qs told (suc k) lt inside = told k (omega (arith, inside))
+
     none_of : (seq : ℕ) (q : List ℕ) (qs : List (List ℕ)) → field16 2 q ≢ seq → ((k : ℕ) → k < length qs → field16 2 (get_or qs k []) ≢ seq)
         → (k : ℕ) → k < length (q ∷ qs) → field16 2 (get_or (q ∷ qs) k []) ≢ seq
     none_of seq q qs other told zero lt = other

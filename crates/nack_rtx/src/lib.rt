@@ -28,3 +28,6 @@ pub const MOST_STORED: usize = 4_096;
 /// The most bytes of a packet that is kept: with the two bytes of its original sequence number it is
 /// no greater than a packet may be.
 pub const MOST_KEPT_BYTES: usize = 1_498;
+
+#[cfg(test)]
+mod tests;

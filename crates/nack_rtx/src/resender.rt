@@ -169,7 +169,13 @@ impl Resender {
         };
         let first = self.first();
         for seq in nack.lost.as_slice() {
-            let verdict = self.judge(alloc, nack.media, &answering.counts, answering.resends, *seq)?;
+            let verdict = self.judge(
+                alloc,
+                nack.media,
+                &answering.counts,
+                answering.resends,
+                *seq,
+            )?;
             answering.take(first, verdict)?;
         }
         Ok(answering)

@@ -14,10 +14,10 @@ loop-seq-preserved c = record {
       let works = c.loop-seq.invariant.works a keep in
       let items : c.as_slice-seq-items.result.now ≡ lost = c.as_slice-seq-items.ensures.items in
       goes_on_at c.args.self.now c.loop-seq.answering c.take.new.self c.args.self.now.settings c.args.nack.now.media a lost c.loop-seq.seq-index c.in_ok-verdict.verdict
-          (omega (arith, c.loop-seq-test.true, ap (length {A = ℕ}) items)) works
-          (subst (λ (xs : List ℕ). c.in_ok-verdict.verdict ≡ verdict c.args.self.now.settings c.args.nack.now.media (left c.args.self.now.settings c.args.nack.now.media a (take c.loop-seq.seq-index lost)) (get_or xs c.loop-seq.seq-index 0))
-          items (c.in_ok-verdict.ensures (left c.args.self.now.settings c.args.nack.now.media a (take c.loop-seq.seq-index lost)) works.keeps))
-          (subst (λ k. IsTold c.loop-seq.answering c.take.new.self k c.in_ok-verdict.verdict) c.first-first.ensures c.in_ok-take.ensures.ok);
+      (omega (arith, c.loop-seq-test.true, ap (length {A = ℕ}) items)) works
+      (subst (λ (xs : List ℕ). c.in_ok-verdict.verdict ≡ verdict c.args.self.now.settings c.args.nack.now.media (left c.args.self.now.settings c.args.nack.now.media a (take c.loop-seq.seq-index lost)) (get_or xs c.loop-seq.seq-index 0))
+      items (c.in_ok-verdict.ensures (left c.args.self.now.settings c.args.nack.now.media a (take c.loop-seq.seq-index lost)) works.keeps))
+      (subst (λ k. IsTold c.loop-seq.answering c.take.new.self k c.in_ok-verdict.verdict) c.first-first.ensures c.in_ok-take.ensures.ok);
   few = omega (arith, c.loop-seq.invariant.few, c.take.ensures.few);
 }
 

@@ -15,3 +15,5 @@ pub mod ClusterDeeds
 pub mod Rising
 pub mod Finding
 pub mod Filling
+pub mod Stamped
+pub mod ReadBack

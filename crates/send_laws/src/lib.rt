@@ -9,6 +9,7 @@ mod keeping;
 mod laws;
 mod plans;
 mod probes;
+mod read_laws;
 mod reading;
 mod spans;
 
@@ -20,6 +21,7 @@ pub use laws::{
     probes_are_bounded, replies_list_the_credits, reports_credit_exactly,
 };
 pub use probes::{ClusterSpan, span_cluster};
+pub use read_laws::sent_packets_are_read;
 pub use spans::{Span, span_media, span_padding};
 
 #[cfg(test)]

@@ -18,3 +18,5 @@ pub mod Rising
 pub mod Finding
 pub mod Filling
 pub mod Arriving
+pub mod Stamped
+pub mod ReadBack

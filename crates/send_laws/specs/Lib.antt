@@ -7,3 +7,4 @@ pub mod Moments
 pub mod Probes
 pub mod ProbeSends
 pub mod Fills
+pub mod Reading

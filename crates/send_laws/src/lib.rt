@@ -12,6 +12,7 @@ mod keeping;
 mod laws;
 mod plans;
 mod probes;
+mod read_laws;
 mod reading;
 mod spans;
 
@@ -25,4 +26,5 @@ pub use laws::{
     reports_credit_exactly,
 };
 pub use probes::{ClusterSpan, span_cluster};
+pub use read_laws::sent_packets_are_read;
 pub use spans::{Span, span_media, span_padding};

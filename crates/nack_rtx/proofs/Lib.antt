@@ -1,0 +1,12 @@
+pub mod Numbers
+pub mod Naming
+pub mod Pairs
+pub mod Headers
+pub mod Outcomes
+pub mod Told
+pub mod Account
+pub mod Kept
+pub mod Judged
+pub mod Working
+pub mod Yields
+pub mod Repeats

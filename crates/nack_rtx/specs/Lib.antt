@@ -1,0 +1,11 @@
+pub mod Naming
+pub mod Running
+pub mod Spelling
+pub mod Reading
+pub mod Checks
+pub mod Packets
+pub mod Resending
+pub mod Held
+pub mod Keeping
+pub mod Answering
+pub mod Yielding

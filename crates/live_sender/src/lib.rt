@@ -3,11 +3,13 @@
 #![tactic(auto)]
 
 mod live;
+mod looking;
 mod packets;
 mod serving;
 mod stamping;
 
 pub use live::{LiveFault, LiveSender};
+pub use looking::Counters;
 
 #[cfg(test)]
 mod tests;

@@ -71,6 +71,21 @@ impl LiveSender {
             || (self.judged >= MOST_REPORTS || self.parts.accepted >= MOST_ACCEPTED)
     }
 
+    // The parts, which stand for the history.
+    pub(crate) fn parts(&self) -> &Parts
+        ensures parts { result.now ≡ self.now.parts }
+        ensures stands { (history : List Entry) × StandsFor self.now history }
+    {
+        &self.parts
+    }
+
+    // How many reports were judged.
+    pub(crate) fn judged(&self) -> u32
+        ensures { result ≡ self.now.judged }
+    {
+        self.judged
+    }
+
     /// What may leave now is sent. On `Err` nothing has changed.
     pub fn pace(&mut self, alloc: Global, at: u64) -> Result<Answer, LiveFault>
         ensures reply { IfOk result (λ a. (history : List Entry) → StandsFor self.old history → a.reply ≡ reply history (call.Pace at)) }

@@ -3,11 +3,13 @@
 ghost use Rattle.std.specs.Prelude.{◌≡◌, ◌≤◌, ◌↔◌, ℕ, true, false, List, [], ◌∷◌, ◌++◌, IfOk, IfErr, OnOk, OnErr, length};
 
 use crate::packets::Packets;
-use crate::serving::{id_of, is_accepted, judged_by, pace_parts, records_of};
+use crate::serving::{id_of, is_accepted, judged_by, pace_parts, quiet, records_of};
 use crate::stamping::stamp_all;
 use gcc_units::{Bytes, Class, MOST_REPORTS, MOST_SENDS, NoMemory};
 use rtp_wire::WireList;
-use send_core::{Answer, Change, MOST_ACCEPTED, MOST_SENT, Parts, Reply, most_paced, wire_room};
+use send_core::{
+    Answer, Call, Change, MOST_ACCEPTED, MOST_SENT, Parts, Reply, most_paced, wire_room,
+};
 use std::alloc::Global;
 use std::marker::Model;
 
@@ -175,5 +177,34 @@ impl LiveSender {
             return Err(LiveFault::NoMemory);
         };
         Ok(reply)
+    }
+
+    /// Serves one call. On `Err` nothing has changed, and the call comes back.
+    pub fn apply(&mut self, alloc: Global, call: Call) -> Result<Answer, (LiveFault, Call)>
+        ensures reply { IfOk result (λ a. (history : List Entry) → StandsFor self.old history → a.reply ≡ reply history call) }
+        ensures wires { IfOk result (λ a. (history : List Entry) → StandsFor self.old history → a.wires ≡ bare_wires (wires history a.reply)) }
+        ensures stands { IfOk result (λ a. (history : List Entry) (caller : ℕ) → StandsFor self.old history → StandsFor self.new (history ++ entry caller call a.reply ∷ [])) }
+        ensures err { IfErr result (λ e. (self.new ≡ self.old) × (e.1 ≡ call)) }
+        ensures served { OnOk result ((history : List Entry) → StandsFor self.old history → is_exhausted history ≡ false) }
+        ensures exhausted { IfErr result (λ e. (history : List Entry) → StandsFor self.old history → (e.0 ≡ fault.Exhausted) ↔ (is_exhausted history ≡ true)) }
+    {
+        match call {
+            Call::Enqueue { at, class, wire } => match self.enqueue(at, class, wire) {
+                Ok(reply) => Ok(quiet(alloc, reply)),
+                Err((fault, wire)) => Err((fault, Call::Enqueue { at, class, wire })),
+            },
+            Call::Pace { at } => match self.pace(alloc, at) {
+                Ok(answer) => Ok(answer),
+                Err(fault) => Err((fault, Call::Pace { at })),
+            },
+            Call::Report { at, bytes } => match self.report(alloc, at, &bytes) {
+                Ok(reply) => Ok(quiet(alloc, reply)),
+                Err(fault) => Err((fault, Call::Report { at, bytes })),
+            },
+            Call::Configure { at, change } => match self.configure(alloc, at, &change) {
+                Ok(reply) => Ok(quiet(alloc, reply)),
+                Err(fault) => Err((fault, Call::Configure { at, change })),
+            },
+        }
     }
 }

@@ -1,18 +1,21 @@
 //! Calls on the parts of a sender, and what their replies say.
 
-ghost use Rattle.std.specs.Prelude.{◌≡◌, ◌≤◌, if◌then◌else◌, List, IfOk, OnErr, length};
+ghost use Rattle.std.specs.Prelude.{◌≡◌, ◌≤◌, if◌then◌else◌, [], List, IfOk, OnErr, length};
 ghost use Rattle.gcc_units.specs.Listed.{bare};
 ghost use Rattle.send_core.specs.declared.call.Call.TheVariants as call;
 ghost use Rattle.send_core.specs.declared.call.Entry.{Entry};
 ghost use Rattle.send_core.specs.Bounds.{most_paced};
 ghost use Rattle.send_core.specs.History.{sent_by};
 ghost use Rattle.send_core.specs.Reply.{reply};
+ghost use Rattle.rtp_wire.specs.Wires.{bare_wires};
+ghost use Rattle.send_core.specs.Wires.{wires};
 ghost use Rattle.send_core.specs.Stands.{StandsFor, StandsForShort, Steps};
 ghost use Rattle.live_sender.specs.Replies.{is_accepted, is_judged};
 
 use gcc_units::{MOST_SENDS, NoMemory};
 use pacer::{Sent, SentList};
-use send_core::{Parts, Reply};
+use rtp_wire::WireList;
+use send_core::{Answer, Parts, Reply};
 use std::alloc::Global;
 
 /// The ID of the element that holds the number.
@@ -47,6 +50,18 @@ pub fn judged_by(reply: &Reply) -> u32
     match reply {
         Reply::Credited { .. } => 1,
         _ => 0,
+    }
+}
+
+/// The answer of a reply with which nothing leaves.
+pub fn quiet(alloc: Global, reply: Reply) -> Answer
+    requires { sent_by reply ≡ [] }
+    ensures reply { result.reply ≡ reply }
+    ensures wires { (history : List Entry) → result.wires ≡ bare_wires (wires history result.reply) }
+{
+    Answer {
+        reply,
+        wires: WireList::new(alloc),
     }
 }
 

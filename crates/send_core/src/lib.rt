@@ -35,3 +35,4 @@ pub use parts::Parts;
 pub use sender::Sender;
 pub use settings::{GREATEST_EXTENSION, LEAST_EXTENSION, START_RATE, Settings};
 pub use stamping::wire_room;
+pub use telling::{rates_of, shares_of};

@@ -1,0 +1,3 @@
+pub mod Among
+pub mod Leaving
+pub mod Living

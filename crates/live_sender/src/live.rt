@@ -201,7 +201,7 @@ impl LiveSender {
                 Ok(reply) => Ok(quiet(alloc, reply)),
                 Err(fault) => Err((fault, Call::Report { at, bytes })),
             },
-            Call::Configure { at, change } => match self.configure(alloc, at, &change) {
+            Call::Configure { at, change } => match self.configure(alloc, at, change.get()) {
                 Ok(reply) => Ok(quiet(alloc, reply)),
                 Err(fault) => Err((fault, Call::Configure { at, change })),
             },

@@ -110,7 +110,7 @@ sent-window t m steady =
 
 -- ---- reports
 
-all-near : (t : ℕ) (ms : List ℕ) → t ≤ 5000 * MOST_LINES → All (IsRecent (moment (since t)) t) ms → AreNear ms
+all-near : (t : ℕ) (ms : List ℕ) → t ≤ 5 * MOST_LINES → All (IsRecent (moment (since t)) t) ms → AreNear ms
 all-near t [] early recent = record { each = All-nil (IsNear 50000 0); early = omega arith }
 all-near t (x ∷ xs) early recent =
     let first : IsRecent (moment (since t)) t x = All-head (IsRecent (moment (since t)) t) x xs recent in
@@ -119,7 +119,7 @@ all-near t (x ∷ xs) early recent =
       early = omega (arith, first.1);
     }
 
-pub window-near : (t most : ℕ) (m : Making) → t ≤ 5000 * MOST_LINES → IsWindow (moment (since t)) t most m → AreNear (uncovered m)
+pub window-near : (t most : ℕ) (m : Making) → t ≤ 5 * MOST_LINES → IsWindow (moment (since t)) t most m → AreNear (uncovered m)
 window-near t most m early w = all-near t (uncovered m) early (All-take (IsRecent (moment (since t)) t) 65535 (untold m) w.recent)
 
 -- ---- the next millisecond

@@ -316,6 +316,7 @@ class Sender:
             return self.send("a", head)
         if current is not None and self.clusters[current].is_due(self.now):
             record = self.send(f"x{current}", head, current)
+            self.media -= BYTE * record["size"]
             self.clusters[current].sends.append((self.now, record["size"]))
             return record
         if head and self.media > 0:
@@ -470,14 +471,18 @@ class Journal:
             self.left.append((sender.rate, sender.padding_rate, sender.window))
 
     def span(self, kind, i, j):
-        """Bytes, integral, window and last size, of media (`m`) or padding (`p`)."""
+        """Bytes, integral, window and last size, of media (`m`) or padding (`p`). The bytes of media are with
+        those of the probes before the last of it."""
         which = "mp".index(kind)
-        sizes = [r["size"] for records in self.records[i:j + 1] for r in records if r["kind"] == kind]
+        records = [r for records in self.records[i:j + 1] for r in records]
+        places = [k for k, r in enumerate(records) if r["kind"] == kind]
+        counted = records[:places[-1] + 1] if places else []
+        size = sum(r["size"] for r in counted if r["kind"] == kind or (kind == "m" and r["cluster"] is not None))
         integral = sum(self.left[e + 1][which] * (self.moments[e + 1] - self.moments[e]) for e in range(i, j))
         window = self.left[i][which] * self.left[i][2]
-        last = sizes[-1] if sizes else 0
-        assert BYTE * sum(sizes) <= integral + window + BYTE * last
-        return sum(sizes), integral, window, last
+        last = counted[-1]["size"] if counted else 0
+        assert BYTE * size <= integral + window + BYTE * last
+        return size, integral, window, last
 
     def cluster(self, n):
         """Bytes before the last packet, rate and time; None where nothing was sent."""

@@ -8,7 +8,7 @@ use Rattle.rand_xoshiro.specs.Xoshiro256.{plus_plus, of_seed}
 use Rattle.twcc_report.specs.declared.report.Status.{Status}
 use Rattle.twcc_report.specs.declared.report.Status.TheVariants.{NotReceived, Small, Large}
 use Rattle.twcc_report.specs.Spelling.{Feedback}
-use Rattle.gcc_units.specs.declared.limits.TheConstants.{ARRIVAL_MICROSECONDS}
+use Rattle.gcc_units.specs.declared.limits.TheConstants.{ARRIVAL_MICROSECONDS, MOST_LINES}
 
 -- ---- words
 
@@ -82,4 +82,4 @@ pub record IsNear (distance a b : ℕ) : Type 0 where
 -- packets that were sent within 50 ms of the first, and early enough
 pub record AreNear (moments : List ℕ) : Type 0 where
   pub each : All (IsNear 50000 (slice_index moments 0)) moments
-  pub early : slice_index moments 0 < 2 ^ 33
+  pub early : slice_index moments 0 ≤ 5000 * MOST_LINES

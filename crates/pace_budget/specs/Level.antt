@@ -1,7 +1,7 @@
 -- The level of a bucket, as the least over all times from which it may have been filled.
-use Rattle.std.specs.Prelude.{◌≡◌, ◌⊎◌, ℕ, ℤ, pos, negsuc, neg_ℤ, ◌*◌, ◌+ℤ◌, ◌-ℤ◌, ◌≤ℤ◌, min, List, [], ◌∷◌, fold, All, Contains}
+use Rattle.std.specs.Prelude.{◌≡◌, ◌⊎◌, ℕ, ℤ, pos, negsuc, neg_ℤ, ◌*◌, ◌+ℤ◌, ◌-ℤ◌, ◌≤ℤ◌, ◌^◌, min, List, [], ◌∷◌, fold, All, Contains}
 use Rattle.std.specs.Int.{int_min}
-use Rattle.gcc_units.specs.declared.limits.TheConstants.{GREATEST_RATE, BYTE}
+use Rattle.gcc_units.specs.declared.limits.TheConstants.{GREATEST_RATE, GREATEST_PACKET, BYTE}
 use Rattle.pace_budget.specs.declared.bucket.TheConstants.{GREATEST_WINDOW}
 
 -- What is done to a bucket. Time passes at a rate and under a window; a packet is sent for which the
@@ -9,6 +9,7 @@ use Rattle.pace_budget.specs.declared.bucket.TheConstants.{GREATEST_WINDOW}
 pub data Deed : Type 0 where
   Advance : (rate : ℕ) → (dt : ℕ) → (window : ℕ) → Deed
   Spend : (size : ℕ) → Deed
+  Probe : (size : ℕ) → Deed
   Soft : (amount : ℕ) → Deed
 
 -- a size in micro-bits
@@ -19,6 +20,7 @@ bits size = pos (BYTE * size)
 abbrev pub flow : Deed → ℤ
 flow (Advance rate dt window) = pos (rate * dt)
 flow (Spend size) = neg_ℤ (bits size)
+flow (Probe size) = neg_ℤ (bits size)
 flow (Soft amount) = neg_ℤ (pos amount)
 
 -- what came in, less what was taken
@@ -31,6 +33,7 @@ abbrev pub starts : List Deed → List ℤ
 starts [] = []
 starts (Advance rate dt window ∷ ds) = (pos (rate * window) +ℤ inflow ds) ∷ starts ds
 starts (Spend size ∷ ds) = starts ds
+starts (Probe size ∷ ds) = starts ds
 starts (Soft amount ∷ ds) = starts ds
 
 -- the least over all starts, and the start at 0
@@ -61,10 +64,14 @@ whole (negsuc n) = 0
 abbrev pub soft_amount : ℤ → ℕ → ℤ → ℕ
 soft_amount now size floor = min (BYTE * size) (whole (now -ℤ floor))
 
--- the most that a level may hold, and the most that it may lack
+-- the most that a level may hold
 abbrev pub full : ℤ
 full = pos (GREATEST_RATE * GREATEST_WINDOW)
 
+-- the most that it may lack where a probe is sent, which takes one packet more
+abbrev pub lacking : ℤ
+lacking = pos (2 ^ 100)
+
 pub record IsHeld (now : ℤ) : Type 0 where
   pub high : now ≤ℤ full
-  pub low : neg_ℤ full ≤ℤ now
+  pub low : neg_ℤ (lacking +ℤ bits GREATEST_PACKET) ≤ℤ now

@@ -2,7 +2,7 @@
 -- one packet.
 use Rattle.std.proofs.Common.{ℕ, ℤ, pos, ◌+◌, ◌*◌, ◌+ℤ◌, ◌<ℤ◌, ◌≤ℤ◌, List, [], ◌∷◌, ◌++◌, fold, arith}
 use Rattle.std.proofs.lemmas.Int.{ints, clamps}
-use Rattle.pace_budget.specs.Level.{Deed, Advance, Spend, Soft, bits}
+use Rattle.pace_budget.specs.Level.{Deed, Advance, Spend, Probe, Soft, bits}
 use Rattle.pace_budget.specs.Steps.{step}
 
 -- from this level on, the bucket is open at each packet that it has to be open for
@@ -10,21 +10,24 @@ abbrev pub Opens : ℤ → List Deed → Type 0
 Opens now [] = Unit {0}
 Opens now (Advance rate dt window ∷ ds) = Opens (step now (Advance rate dt window)) ds
 Opens now (Spend size ∷ ds) = (pos 0 <ℤ now) × Opens (step now (Spend size)) ds
+Opens now (Probe size ∷ ds) = Opens (step now (Probe size)) ds
 Opens now (Soft amount ∷ ds) = Opens (step now (Soft amount)) ds
 
--- what the packets took that the bucket had to be open for, what time brought, and the size of the
--- last of these packets
+-- what packets took up to the last one that the bucket had to be open for, what probes took since
+-- then, what time brought, and the size of that last packet
 pub record Count : Type 0 where
   pub all : ℤ
+  pub since : ℤ
   pub gained : ℕ
   pub last : ℕ
 
 abbrev pub none_counted : Count
-none_counted = record { all = pos 0; gained = 0; last = 0 }
+none_counted = record { all = pos 0; since = pos 0; gained = 0; last = 0 }
 
 abbrev pub count : Count → Deed → Count
-count n (Advance rate dt window) = record { all = n.all; gained = n.gained + rate * dt; last = n.last }
-count n (Spend size) = record { all = n.all +ℤ bits size; gained = n.gained; last = size }
+count n (Advance rate dt window) = record { all = n.all; since = n.since; gained = n.gained + rate * dt; last = n.last }
+count n (Spend size) = record { all = n.all +ℤ n.since +ℤ bits size; since = pos 0; gained = n.gained; last = size }
+count n (Probe size) = record { all = n.all; since = n.since +ℤ bits size; gained = n.gained; last = n.last }
 count n (Soft amount) = n
 
 -- no more was taken than this much, what came in, and the last packet
@@ -33,13 +36,15 @@ IsWithin most n = n.all ≤ℤ (most +ℤ pos n.gained +ℤ bits n.last)
 
 -- and this stays so, where the level is at most what is left of it
 pub count-within : (most now : ℤ) (n : Count) (ds : List Deed) → Opens now ds
-    → (now +ℤ n.all) ≤ℤ (most +ℤ pos n.gained) → IsWithin most n → IsWithin most (fold count n ds)
+    → (now +ℤ n.all +ℤ n.since) ≤ℤ (most +ℤ pos n.gained) → IsWithin most n → IsWithin most (fold count n ds)
 count-within most now n [] opens low within = within
 count-within most now n (Advance rate dt window ∷ ds) opens low within =
     count-within most (step now (Advance rate dt window)) (count n (Advance rate dt window)) ds opens (omega (arith, ints, clamps)) (omega (arith, ints))
 count-within most now n (Spend size ∷ ds) opens low within =
     let here : pos 0 <ℤ now = opens.0 in
     count-within most (step now (Spend size)) (count n (Spend size)) ds opens.1 (omega (arith, ints)) (omega (arith, ints))
+count-within most now n (Probe size ∷ ds) opens low within =
+    count-within most (step now (Probe size)) (count n (Probe size)) ds opens (omega (arith, ints)) within
 count-within most now n (Soft amount ∷ ds) opens low within =
     count-within most (step now (Soft amount)) (count n (Soft amount)) ds opens (omega (arith, ints)) within
 
@@ -48,16 +53,19 @@ pub Opens-append : (now : ℤ) (ds es : List Deed) → Opens now ds → Opens (f
 Opens-append now [] es first second = second
 Opens-append now (Advance rate dt window ∷ ds) es first second = Opens-append (step now (Advance rate dt window)) ds es first second
 Opens-append now (Spend size ∷ ds) es first second = (first.0, Opens-append (step now (Spend size)) ds es first.1 second)
+Opens-append now (Probe size ∷ ds) es first second = Opens-append (step now (Probe size)) ds es first second
 Opens-append now (Soft amount ∷ ds) es first second = Opens-append (step now (Soft amount)) ds es first second
 
 pub Opens-front : (now : ℤ) (ds es : List Deed) → Opens now (ds ++ es) → Opens now ds
 Opens-front now [] es opens = tt
 Opens-front now (Advance rate dt window ∷ ds) es opens = Opens-front (step now (Advance rate dt window)) ds es opens
 Opens-front now (Spend size ∷ ds) es opens = (opens.0, Opens-front (step now (Spend size)) ds es opens.1)
+Opens-front now (Probe size ∷ ds) es opens = Opens-front (step now (Probe size)) ds es opens
 Opens-front now (Soft amount ∷ ds) es opens = Opens-front (step now (Soft amount)) ds es opens
 
 pub Opens-rest : (now : ℤ) (ds es : List Deed) → Opens now (ds ++ es) → Opens (fold step now ds) es
 Opens-rest now [] es opens = opens
 Opens-rest now (Advance rate dt window ∷ ds) es opens = Opens-rest (step now (Advance rate dt window)) ds es opens
 Opens-rest now (Spend size ∷ ds) es opens = Opens-rest (step now (Spend size)) ds es opens.1
+Opens-rest now (Probe size ∷ ds) es opens = Opens-rest (step now (Probe size)) ds es opens
 Opens-rest now (Soft amount ∷ ds) es opens = Opens-rest (step now (Soft amount)) ds es opens

@@ -3,11 +3,12 @@ use Rattle.std.proofs.Common.{◌≡◌, ◌≤ℤ◌, All, ℕ, ℤ, pos, ◌*�
 use Rattle.std.proofs.lemmas.Int.{ints, clamps, fold-int_min_bounds, fold-int_min_reached}
 use Rattle.std.proofs.lemmas.List.Sums.{fold-append}
 use Rattle.std.specs.Int.{int_min}
-use Rattle.pace_budget.specs.Level.{Deed, Advance, Spend, Soft, bits, flow, inflow, starts, level, IsAtMost, IsLeast, StandsFor}
+use Rattle.pace_budget.specs.Level.{Deed, Advance, Spend, Probe, Soft, bits, flow, inflow, starts, level, IsAtMost, IsLeast, StandsFor}
 
 abbrev pub step : ℤ → Deed → ℤ
 step now (Advance rate dt window) = int_min (now +ℤ pos (rate * dt)) (pos (rate * window))
 step now (Spend size) = now -ℤ bits size
+step now (Probe size) = now -ℤ bits size
 step now (Soft amount) = now -ℤ pos amount
 
 inflow-push : (ds : List Deed) (d : Deed) → inflow (ds ++ d ∷ []) ≡ inflow ds +ℤ flow d
@@ -24,6 +25,7 @@ starts-push (Advance rate dt window ∷ ds) d =
     both-same (pos (rate * window) +ℤ inflow (ds ++ d ∷ [])) ((pos (rate * window) +ℤ inflow ds) +ℤ flow d) (starts (ds ++ d ∷ [])) (map (λ s. s +ℤ flow d) (starts ds) ++ starts (d ∷ []))
     (omega (arith, ints, inflow-push ds d)) (starts-push ds d)
 starts-push (Spend size ∷ ds) d = starts-push ds d
+starts-push (Probe size ∷ ds) d = starts-push ds d
 starts-push (Soft amount ∷ ds) d = starts-push ds d
 
 -- the least of numbers that all move by as much moves by as much
@@ -50,6 +52,10 @@ level-step ds (Spend size) = level-push ds (Spend size) ∙ last-spend (level ds
   where
     last-spend : (a : ℤ) (n : ℕ) → a +ℤ neg_ℤ (pos n) ≡ a -ℤ pos n
     last-spend a n = omega (arith, ints)
+level-step ds (Probe size) = level-push ds (Probe size) ∙ last-probe (level ds) (8000000 * size)
+  where
+    last-probe : (a : ℤ) (n : ℕ) → a +ℤ neg_ℤ (pos n) ≡ a -ℤ pos n
+    last-probe a n = omega (arith, ints)
 level-step ds (Soft amount) = level-push ds (Soft amount) ∙ last-soft (level ds) amount
   where
     last-soft : (a : ℤ) (n : ℕ) → a +ℤ neg_ℤ (pos n) ≡ a -ℤ pos n

@@ -1,6 +1,6 @@
 ghost use Rattle.std.specs.Prelude.{◌≡◌, ◌↔◌, ◌*◌, ◌≤◌, ℤ, pos, neg_ℤ, ◌+ℤ◌, ◌-ℤ◌, ◌<ℤ◌, ◌≤ℤ◌, List, [], ◌∷◌, ◌++◌, IsTrue};
 ghost use Rattle.std.specs.Int.{int_min, int_max};
-ghost use Rattle.pace_budget.specs.Level.{Deed, Advance, Spend, Soft, bits, full, soft_amount, StandsFor};
+ghost use Rattle.pace_budget.specs.Level.{Deed, Advance, Spend, Probe, Soft, bits, full, lacking, soft_amount, StandsFor};
 
 use gcc_units::{BYTE, GREATEST_MOMENT, GREATEST_PACKET, GREATEST_RATE, Level, Rate};
 use std::marker::Model;
@@ -69,6 +69,16 @@ impl Bucket {
         ensures stands { (deeds : List Deed) → StandsFor self.old deeds → StandsFor self.new (deeds ++ Spend size ∷ []) }
     {
         self.level -= bits_of(size);
+    }
+
+    /// A probe of so many bytes is sent, whether the bucket is open or not. It takes its whole size.
+    pub fn spend_probe(&mut self, size: u32)
+        requires size { size ≤ GREATEST_PACKET }
+        requires low { neg_ℤ lacking ≤ℤ self.old }
+        ensures level { self.new ≡ self.old -ℤ bits size }
+        ensures stands { (deeds : List Deed) → StandsFor self.old deeds → StandsFor self.new (deeds ++ Probe size ∷ []) }
+    {
+        self.level = self.level - bits_of(size);
     }
 
     /// A packet of so many bytes is sent from another budget. It takes its size, but nothing below the

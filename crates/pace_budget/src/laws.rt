@@ -10,8 +10,9 @@ pub fn level_is_least()
     ensures { (deeds : List Deed) → IsLeast (level deeds) deeds }
 {}
 
-/// Law: from a level of at most `most` on, the packets for which the bucket has to be open take no
-/// more together than `most`, what comes in, and the size of the last of them.
+/// Law: from a level of at most `most` on, the packets for which the bucket has to be open, and the
+/// probes before the last of them, take no more together than `most`, what comes in, and the size of
+/// that last packet.
 pub fn spending_is_bounded()
     ensures { (most now : ℤ) (deeds : List Deed) → now ≤ℤ most → pos 0 ≤ℤ most → Opens now deeds → IsWithin most (fold count none_counted deeds) }
 {}

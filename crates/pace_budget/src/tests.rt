@@ -8,7 +8,7 @@ const SECOND: u64 = 1_000_000;
 const PACING: u64 = 750_000;
 
 #[test]
-fn after_an_idle_time_one_packet_goes(rt: HostRuntime) {
+fn after_an_idle_time_one_packet_goes_and_a_probe_at_any_level(rt: HostRuntime) {
     let mut bucket = Bucket::new();
     assert!(rt; !bucket.is_open());
     bucket.advance(PACING, 10 * SECOND, 5_000);
@@ -17,6 +17,8 @@ fn after_an_idle_time_one_packet_goes(rt: HostRuntime) {
     bucket.spend(1_200);
     assert_eq!(rt; bucket.level(), -5_850_000_000);
     assert!(rt; !bucket.is_open());
+    bucket.spend_probe(1_200);
+    assert_eq!(rt; bucket.level(), -15_450_000_000);
 }
 
 #[test]

@@ -7,7 +7,7 @@ use Rattle.gcc_units.specs.Walk.{flat_map-push}
 use Rattle.probe_clusters.specs.Deeds.{Deed, StandsFor, ReachedBy}
 use Rattle.pacer.specs.declared.sent.Sent.{Sent}
 use Rattle.pacer.specs.declared.course.Terms.{Terms}
-use Rattle.pacer.specs.Course.{HasRoom, probe_by, probes_of}
+use Rattle.pacer.specs.Course.{HasRoom, IsLowered, MayLower, probe_by, probes_of}
 use Rattle.pacer.specs.Afters.{after_all-is}
 use Rattle.pacer.specs.Pace.{Standing, unsent, rule, after, after_all, then_on, paced, paced-zero, paced-suc}
 
@@ -19,6 +19,7 @@ pub record IsUnderWay (terms : Terms) (begun : Standing) (now : Standing) (done 
   pub few : length done ≤ MOST_SENDS
   pub stands : (ds : List Deed) → StandsFor begun.clusters ds → StandsFor now.clusters (ds ++ probes_of terms.moment done)
   pub room : (sends : ℕ) → ReachedBy sends MOST_PACKETS begun.clusters → ReachedBy (sends + length done) MOST_PACKETS now.clusters
+  pub lowered : (sends : ℕ) → IsLowered sends begun.media → IsLowered (sends + length done) now.media
 
 pub under_way-first : (terms : Terms) (begun : Standing) → IsUnderWay terms begun begun []
 under_way-first terms begun = record {
@@ -27,6 +28,7 @@ under_way-first terms begun = record {
   few = omega arith;
   stands = λ ds s. rw append-nil s;
   room = λ sends h. let same : sends + 0 ≡ sends = omega arith in rw same h;
+  lowered = λ sends h. let same : sends + 0 ≡ sends = omega arith in rw same h;
 }
 
 paced-next : (most : ℕ) (terms : Terms) (s : Standing) (r : Sent) → rule terms s ≡ Some r → paced (suc most) terms s ≡ r ∷ paced most terms (after terms s r)
@@ -40,8 +42,9 @@ pub under_way-more : (terms : Terms) (begun now : Standing) (done : List Sent) (
     → IsUnderWay terms begun now done → length done < MOST_SENDS → rule terms now ≡ Some r → next ≡ after terms now r
     → ((ds : List Deed) → StandsFor now.clusters ds → StandsFor next.clusters (ds ++ probe_by terms.moment r))
     → ((sends : ℕ) → ReachedBy sends MOST_PACKETS now.clusters → ReachedBy (sends + 1) MOST_PACKETS next.clusters)
+    → ((sends : ℕ) → IsLowered sends now.media → IsLowered (sends + 1) next.media)
     → IsUnderWay terms begun next (done ++ r ∷ [])
-under_way-more terms begun now done r next h below e is stands reached =
+under_way-more terms begun now done r next h below e is stands reached lowered =
     let longer : length (done ++ r ∷ []) ≡ length done + 1 = length-append done (r ∷ []) in
     let steps : MOST_SENDS - length done ≡ suc (MOST_SENDS - (length done + 1)) = omega arith in
     let sends : paced (MOST_SENDS - length done) terms now ≡ r ∷ paced (MOST_SENDS - (length done + 1)) terms (after terms now r) =
@@ -57,6 +60,9 @@ under_way-more terms begun now done r next h below e is stands reached =
       room = λ sends b.
           let sum : sends + length (done ++ r ∷ []) ≡ sends + length done + 1 = omega (arith, longer) in
           rw sum (reached (sends + length done) (h.room sends b));
+      lowered = λ sends b.
+          let sum : sends + length (done ++ r ∷ []) ≡ sends + length done + 1 = omega (arith, longer) in
+          rw sum (lowered (sends + length done) (h.lowered sends b));
     }
 
 -- there is room for one more packet of a cluster
@@ -66,11 +72,19 @@ room-now terms begun now done h below room =
     let most : room.sends + MOST_SENDS ≤ MOST_PACKETS = room.room in
     record { sends = room.sends + length done; reached = h.room room.sends room.reached; room = omega arith }
 
+-- and one more packet may lower the level
+pub lower-now : (terms : Terms) (begun now : Standing) (done : List Sent) → IsUnderWay terms begun now done → length done < MOST_SENDS
+    → MayLower MOST_SENDS begun.media → MayLower 1 now.media
+lower-now terms begun now done h below may =
+    let most : may.sends + MOST_SENDS ≤ MOST_PACKETS = may.room in
+    record { sends = may.sends + length done; lowered = h.lowered may.sends may.lowered; room = omega arith }
+
 pub record HasPaced (terms : Terms) (begun now : Standing) (done : List Sent) : Type 0 where
   pub queue : now.waiting ≡ unsent done begun.waiting
   pub records : done ≡ paced MOST_SENDS terms begun
   pub reached : now ≡ after_all terms begun done
   pub stands : (ds : List Deed) → StandsFor begun.clusters ds → StandsFor now.clusters (ds ++ probes_of terms.moment done)
+  pub lowered : (sends : ℕ) → IsLowered sends begun.media → IsLowered (sends + length done) now.media
 
 ended : (terms : Terms) (begun now : Standing) (done : List Sent) → IsUnderWay terms begun now done → paced (MOST_SENDS - length done) terms now ≡ [] → HasPaced terms begun now done
 ended terms begun now done h none = record {
@@ -78,6 +92,7 @@ ended terms begun now done h none = record {
   records = sym (append-nil done) ∙ (ap (λ rs. done ++ rs) (sym none) ∙ h.records);
   reached = h.reached;
   stands = h.stands;
+  lowered = h.lowered;
 }
 
 pub under_way-stopped : (terms : Terms) (begun now : Standing) (done : List Sent) → IsUnderWay terms begun now done → rule terms now ≡ None → HasPaced terms begun now done

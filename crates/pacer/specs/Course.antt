@@ -1,7 +1,7 @@
 -- What a pace works on, and what it asks of it.
-use Rattle.std.specs.Prelude.{ℕ, pos, neg_ℤ, ◌+◌, ◌≤◌, ◌≤ℤ◌, List, [], ◌∷◌, All}
+use Rattle.std.specs.Prelude.{ℕ, ℤ, pos, neg_ℤ, ◌+◌, ◌*◌, ◌≤◌, ◌≤ℤ◌, List, [], ◌∷◌, All}
 use Rattle.std.specs.List.{flat_map}
-use Rattle.gcc_units.specs.declared.limits.TheConstants.{GREATEST_PACKET, MOST_PACKETS}
+use Rattle.gcc_units.specs.declared.limits.TheConstants.{BYTE, GREATEST_PACKET, MOST_PACKETS}
 use Rattle.pace_budget.specs.Level.{full}
 use Rattle.pace_queues.specs.declared.ticket.Ticket.{Ticket}
 use Rattle.probe_clusters.specs.declared.cluster.Cluster.{Cluster}
@@ -31,6 +31,16 @@ pub record IsFit (terms : Terms) (c : Course) : Type 0 where
 pub record HasRoom (more : ℕ) (now : List Cluster) : Type 0 where
   pub sends : ℕ
   pub reached : ReachedBy sends MOST_PACKETS now
+  pub room : sends + more ≤ MOST_PACKETS
+
+-- so many sends may have lowered the level, each by the most that one may take
+abbrev pub IsLowered : ℕ → ℤ → Type 0
+IsLowered sends level = neg_ℤ (pos (BYTE * GREATEST_PACKET * sends)) ≤ℤ level
+
+-- so few sends lowered it that so many more may follow
+pub record MayLower (more : ℕ) (level : ℤ) : Type 0 where
+  pub sends : ℕ
+  pub lowered : IsLowered sends level
   pub room : sends + more ≤ MOST_PACKETS
 
 -- the packets that were sent for clusters

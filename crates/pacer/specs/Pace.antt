@@ -5,7 +5,7 @@ use Rattle.std.specs.List.{list_any}
 use Rattle.gcc_units.specs.declared.class.Class.{Class}
 use Rattle.gcc_units.specs.declared.class.Class.TheVariants.{Audio, Retransmission, Video, Fec}
 use Rattle.gcc_units.specs.declared.limits.TheConstants.{PADDING_PACKET}
-use Rattle.pace_budget.specs.Level.{Deed, Spend, bits}
+use Rattle.pace_budget.specs.Level.{Deed, Spend, Probe, bits}
 use Rattle.pace_budget.specs.Steps.{step}
 use Rattle.pace_queues.specs.declared.ticket.Ticket.{Ticket}
 use Rattle.pace_queues.specs.Waiting.{next}
@@ -45,7 +45,7 @@ unsent records tickets = filter (λ (t : Ticket). not (names t.index records)) t
 abbrev pub deed_by : Kind → ℕ → List Deed
 deed_by kind.Audio size = []
 deed_by kind.Media size = Spend size ∷ []
-deed_by (kind.Probe id) size = []
+deed_by (kind.Probe id) size = Probe size ∷ []
 deed_by kind.Padding size = []
 
 abbrev pub deed_of : Sent → List Deed

@@ -4,7 +4,7 @@ ghost use Rattle.std.specs.Prelude.{◌≡◌, ℕ, ◌+◌, ◌≤◌, ◌<◌,
 ghost use Rattle.pace_queues.specs.Waiting.{next};
 ghost use Rattle.probe_clusters.specs.Deeds.{Deed, StandsFor, ReachedBy};
 ghost use Rattle.pacer.specs.Pace.{rule, after, after_all, paced, is_audio, record_of, padding_of, index_of, unsent};
-ghost use Rattle.pacer.specs.Course.{standing, IsFit, HasRoom, probes_of, probe_by};
+ghost use Rattle.pacer.specs.Course.{standing, IsFit, HasRoom, IsLowered, MayLower, probes_of, probe_by};
 
 use crate::sent::{Kind, Sent, SentList};
 use gcc_units::{Class, Level, MOST_PACKETS, MOST_SENDS, Moment, PADDING_PACKET};
@@ -108,11 +108,13 @@ fn carry_out(course: &mut Course, clusters: &mut Clusters, number: u64, terms: T
     requires ruled { rule terms (standing course.old clusters.old.items number) ≡ Some sent }
     requires fit { IsFit terms course.old }
     requires room { HasRoom 1 clusters.old.items }
+    requires few { MayLower 1 course.old.media }
     ensures after { standing course.new clusters.new.items (number + 1) ≡ after terms (standing course.old clusters.old.items number) sent }
     ensures fit { IsFit terms course.new }
     ensures spare { clusters.new.spare ≡ clusters.old.spare }
     ensures stands { (ds : List Deed) → StandsFor clusters.old.items ds → StandsFor clusters.new.items (ds ++ probe_by terms.moment sent) }
     ensures reached { (sends : ℕ) → ReachedBy sends MOST_PACKETS clusters.old.items → ReachedBy (sends + 1) MOST_PACKETS clusters.new.items }
+    ensures lowered { (sends : ℕ) → IsLowered sends course.old.media → IsLowered (sends + 1) course.new.media }
 {
     take_out(&mut course.queues, sent);
     match sent.kind {
@@ -122,7 +124,10 @@ fn carry_out(course: &mut Course, clusters: &mut Clusters, number: u64, terms: T
             course.padding.spend_soft(sent.size, terms.floor);
             course.began = true;
         }
-        Kind::Probe(_) => clusters.sent(sent.size, terms.moment),
+        Kind::Probe(_) => {
+            course.media.spend_probe(sent.size);
+            clusters.sent(sent.size, terms.moment);
+        }
         Kind::Padding => course.padding.spend(sent.size),
     }
 }
@@ -137,6 +142,7 @@ pub fn run(
 )
     requires fit { IsFit terms course.old }
     requires clusters { HasRoom MOST_SENDS clusters.old.items }
+    requires few { MayLower MOST_SENDS course.old.media }
     requires empty { out.old.items ≡ [] }
     requires room { MOST_SENDS ≤ out.old.spare }
     requires fits { first + MOST_SENDS < 2 ^ 64 }
@@ -146,6 +152,7 @@ pub fn run(
     ensures queue { course.new.queues ≡ unsent out.new.items course.old.queues }
     ensures spare { clusters.new.spare ≡ clusters.old.spare }
     ensures stands { (ds : List Deed) → StandsFor clusters.old.items ds → StandsFor clusters.new.items (ds ++ probes_of terms.moment out.new.items) }
+    ensures lowered { (sends : ℕ) → IsLowered sends course.old.media → IsLowered (sends + length out.new.items) course.new.media }
 {
     for number in first..first + u64::from(MOST_SENDS) {
         let Some(sent) = choose(course, clusters, number, terms) else {

@@ -5,7 +5,7 @@ ghost use Rattle.pace_budget.specs.Level.{full};
 ghost use Rattle.pace_queues.specs.Waiting.{HasIndexBelow};
 ghost use Rattle.probe_clusters.specs.Deeds.{Deed, StandsFor};
 ghost use Rattle.pacer.specs.Pace.{after_all, paced};
-ghost use Rattle.pacer.specs.Course.{HasRoom, probes_of};
+ghost use Rattle.pacer.specs.Course.{HasRoom, IsLowered, MayLower, probes_of};
 ghost use Rattle.pacer.specs.State.{start, advanced, accepted, terms, standing, left, tuned, tally, IsPacing};
 
 use crate::course::{Course, Terms, run};
@@ -121,10 +121,12 @@ impl Pacer {
         requires room { MOST_SENDS ≤ out.old.spare }
         requires fits { first + MOST_SENDS < 2 ^ 64 }
         requires within { HasRoom MOST_SENDS clusters.old.items }
+        requires few { MayLower MOST_SENDS self.old.media }
         ensures records { out.new.items ≡ paced MOST_SENDS (terms self.old) (standing self.old clusters.old.items first) }
         ensures left { self.new ≡ left self.old (after_all (terms self.old) (standing self.old clusters.old.items first) out.new.items) }
         ensures spare { clusters.new.spare ≡ clusters.old.spare }
         ensures stands { (ds : List Deed) → StandsFor clusters.old.items ds → StandsFor clusters.new.items (ds ++ probes_of self.old.moment out.new.items) }
+        ensures lowered { (sends : ℕ) → IsLowered sends self.old.media → IsLowered (sends + length out.new.items) self.new.media }
     {
         let terms = Terms {
             moment: self.moment,

@@ -9,7 +9,7 @@ use Rattle.send_core.specs.History.{sent}
 use Rattle.send_core.specs.Levels.{rate, window}
 use Rattle.send_core.specs.Reports.{events}
 use Rattle.send_core.specs.Estimates.{est, target}
-use Rattle.send_laws.specs.Spans.{media_bytes, last_media, integral}
+use Rattle.send_laws.specs.Spans.{spent_bytes, last_media, integral}
 use Rattle.run_top.specs.declared.totals.Totals.{Totals}
 use Rattle.run_top.specs.Totals.{totals_of}
 
@@ -33,7 +33,7 @@ abbrev pub balance_line : ℕ → ℕ → ℕ → List ℕ
 balance_line credited outstanding expired =
     codes "credited " ++ decimal credited ++ codes " outstanding " ++ decimal outstanding ++ codes " expired " ++ decimal expired ++ codes "\n"
 
--- the paced media from the first entry to the last, and what bounds them
+-- the paced media from the first entry to the last, with the probes before the last of it, and what bounds them
 abbrev pub media_line : ℕ → ℕ → ℕ → ℕ → List ℕ
 media_line bytes integral window last =
     codes "media " ++ decimal bytes ++ codes " integral " ++ decimal integral ++ codes " window " ++ decimal window
@@ -48,5 +48,5 @@ summary history =
     calls_line (length history)
     ++ (sent_line (totals_of (sent history)) ++ kinds_of (totals_of (sent history)))
     ++ balance_line (length (account (events history)).credited) (outstanding (events history)) (expired (events history))
-    ++ media_line (media_bytes (sent history)) (integral (take 1 history) (drop 1 history)) (rate [] * window []) (last_media (sent history))
+    ++ media_line (spent_bytes (sent history)) (integral (take 1 history) (drop 1 history)) (rate [] * window []) (last_media (sent history))
     ++ rates_line (target history) (estimate (est history)).delay (estimate (est history)).loss

@@ -115,7 +115,7 @@ fn made_race_is_legal<R: Threads + Wait + Sync>(
 fn fifty_made_traces(rt: HostRuntime) -> Result<(), Fail> {
     let alloc = rt.alloc();
     for k in 0..50 {
-        let actors = 2 + k % 15;
+        let actors = 2 + k * (MOST_ACTORS - 2) / 49;
         assert!(rt; made_race_is_legal(&rt, alloc, u64::from(k), actors)?);
     }
     Ok(())

@@ -11,7 +11,7 @@ ghost use Rattle.send_core.specs.History.{sent};
 ghost use Rattle.send_core.specs.Levels.{rate, window};
 ghost use Rattle.send_core.specs.Reply.{target};
 ghost use Rattle.send_core.specs.Reports.{events};
-ghost use Rattle.send_laws.specs.Spans.{media_bytes, last_media, integral};
+ghost use Rattle.send_laws.specs.Spans.{spent_bytes, last_media, integral};
 ghost use Rattle.call_trace.specs.Making.{made};
 ghost use Rattle.call_trace.specs.Ordered.{ordered};
 ghost use Rattle.run_top.specs.declared.words.Command.TheVariants as command;
@@ -84,7 +84,7 @@ fn balance_text(alloc: Global, sender: &Sender) -> Result<String, NoMemory>
     balance_line(alloc, counts.credited, counts.outstanding, counts.expired)
 }
 
-/// Paced media, and what bounds it.
+/// Paced media with the probes before the last of it, and what bounds it.
 fn media_line(
     alloc: Global,
     bytes: u64,
@@ -97,10 +97,10 @@ fn media_line(
     Ok(format!(in alloc; "media {bytes} integral {integral} window {window} last {last}\n")?)
 }
 
-/// Paced media from the first entry to the last.
+/// Paced media from the first entry to the last, with the probes before the last of it.
 fn media_text(alloc: Global, sender: &Sender) -> Result<String, NoMemory>
     requires { 0 < length sender.now }
-    ensures { IfOk result (λ s. string_bytes s ≡ media_line (media_bytes (sent sender.now)) (integral (take 1 sender.now) (drop 1 sender.now)) (rate [] * window []) (last_media (sent sender.now))) }
+    ensures { IfOk result (λ s. string_bytes s ≡ media_line (spent_bytes (sent sender.now)) (integral (take 1 sender.now) (drop 1 sender.now)) (rate [] * window []) (last_media (sent sender.now))) }
 {
     let span = span_media(sender, 0, sender.journal().len() - 1);
     let integral = span.integral as u128;

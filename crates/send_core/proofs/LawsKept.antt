@@ -4,6 +4,7 @@ use Rattle.std.proofs.lemmas.List.{append-nil, length-map}
 use Rattle.std.proofs.lemmas.List.Sums.{sum_by-append}
 use Rattle.std.proofs.lemmas.List.Elements.{All-nil, All-cons, All-head, All-tail, All-append, All-weaker, All-map, All-filter}
 use Rattle.std.proofs.lemmas.Bool.Decides.{nat_tests}
+use Rattle.std.proofs.lemmas.Int.{ints}
 use Rattle.std.proofs.lemmas.Grind.{flat_map-append}
 use Rattle.gcc_units.specs.declared.class.Class.{Class}
 use Rattle.gcc_units.specs.declared.limits.TheConstants.{LEAST_RATE, GREATEST_RATE, GREATEST_MOMENT, GREATEST_PACKET, MOST_SENDS, MOST_WAITING}
@@ -53,6 +54,7 @@ use Rattle.send_core.specs.Reply.{extension_id, enqueued, terms_at, standing_at,
 use Rattle.send_core.specs.Reply as replies
 use Rattle.send_core.specs.Stands.{MoreLaws, IsReadable, AreSettings, IsPlanned, IsOutgoing, Laws}
 use Rattle.send_core.proofs.Pushes.{now-push, accepted-push, sent-push, settings-push, events-push, cluster_deeds-push, est-push, waiting-below, NamesBelow-more}
+use Rattle.send_core.proofs.Lowering.{lowered-push}
 use Rattle.send_core.proofs.StepsMade.{place_of-small, ChangesNothing, refused-nothing}
 
 -- ---- the moment of a call
@@ -193,6 +195,7 @@ HasFew call given = All HasFewStatuses (reports (events_by call given))
 
 pub record Adds (h : List Entry) (call : Call) (given : Reply) : Type 0 where
   pub few : length (sent_by given) ≤ MOST_SENDS
+  pub small_sends : All IsSmallRecord (sent_by given)
   pub known : All (NamesBelow (length (accepted h))) (sent_by given)
   pub readable : All (IsReadable (settings_by (settings h) call given).extension_id) (accepted h ++ accepted_by call given)
   pub set : AreSettings (settings_by (settings h) call given)
@@ -209,6 +212,7 @@ pub record Adds (h : List Entry) (call : Call) (given : Reply) : Type 0 where
 adds-nothing : (h : List Entry) (call : Call) (given : Reply) → Laws h → ChangesNothing call given → credits_by given ≡ [] → Adds h call given
 adds-nothing h call given laws n none = record {
   few = rw n.sends (omega arith);
+  small_sends = rw n.sends (All-nil IsSmallRecord);
   known = rw n.sends (All-nil (NamesBelow (length (accepted h))));
   readable = rw (n.accepts, n.settings (settings h)) (rw append-nil laws.readable);
   set = rw (n.settings (settings h)) laws.set;
@@ -232,6 +236,7 @@ adds-accepted h at class wire moment index place laws is =
     record { place = place; is_place = is; small = place_of-small (extension_id h) wire.items place is } in
     record {
       few = omega arith;
+      small_sends = All-nil IsSmallRecord;
       known = All-nil (NamesBelow (length (accepted h)));
       readable = All-append (IsReadable (extension_id h)) (accepted h) _ laws.readable (All-cons (IsReadable (extension_id h)) _ [] readable (All-nil (IsReadable (extension_id h))));
       set = laws.set;
@@ -276,6 +281,7 @@ adds-sent h at records laws few known small planned =
     let moment : ℕ = later (now h) (call_kind.Pace at) in
     record {
       few = few;
+      small_sends = small;
       known = known;
       readable = rw append-nil laws.readable;
       set = laws.set;
@@ -319,6 +325,7 @@ adds-credited h at bytes report laws is =
     let later_by : now h ≤ moment = later-more (now h) (call_kind.Report at bytes) in
     record {
       few = omega arith;
+      small_sends = All-nil IsSmallRecord;
       known = All-nil (NamesBelow (length (accepted h)));
       readable = rw append-nil laws.readable;
       set = laws.set;
@@ -420,6 +427,7 @@ adds-configured h at change laws passes_all =
     let moment : ℕ = later (now h) (call_kind.Configure at change) in
     record {
       few = omega arith;
+      small_sends = All-nil IsSmallRecord;
       known = All-nil (NamesBelow (length (accepted h)));
       readable = rw append-nil (readable-after h change laws passes_all);
       set = set-after (standing h) change laws.set passes_all;
@@ -527,6 +535,7 @@ laws_after h e laws adds more =
     record {
       in_time = rw moment (later-in_range (now h) e.call laws.in_time);
       few = omega (arith, gone, longer, laws.few, adds.few);
+      lowered = lowered-push h e adds.small_sends laws.lowered;
       known = rw sends (All-append (NamesBelow (length (accepted after))) (sent h) (sent_by e.reply)
           (NamesBelow-more (length (accepted h)) (length (accepted after)) (sent h) further laws.known)
           (NamesBelow-more (length (accepted h)) (length (accepted after)) (sent_by e.reply) further adds.known));
@@ -558,6 +567,7 @@ pub laws-first : Laws []
 laws-first = record {
   in_time = omega arith;
   few = omega arith;
+  lowered = omega (arith, ints);
   known = All-nil (NamesBelow 0);
   readable = All-nil (IsReadable (extension_id []));
   set = record {

@@ -8,6 +8,7 @@ pub mod OutcomesMade
 pub mod Checking
 pub mod Judging
 pub mod Configuring
+pub mod Lowering
 pub mod LawsKept
 pub mod Standing
 pub mod Stamped

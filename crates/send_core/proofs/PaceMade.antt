@@ -16,7 +16,7 @@ use Rattle.probe_clusters.specs.Deeds as probes
 use Rattle.pacer.specs.declared.sent.Sent.{Sent}
 use Rattle.pacer.specs.declared.course.Terms.{Terms}
 use Rattle.pacer.specs.declared.pacing.Pacing.{Pacing}
-use Rattle.pacer.specs.Course.{probes_of}
+use Rattle.pacer.specs.Course.{IsLowered, MayLower, probes_of}
 use Rattle.pacer.specs.Pace.{Standing, unsent, paced, after_all}
 use Rattle.pacer.specs.Afters.{after_each, after_all-is}
 use Rattle.pacer.specs.State.{State, advanced, tuned, terms, standing, left}
@@ -31,6 +31,7 @@ use Rattle.send_core.specs.Levels as levels
 use Rattle.send_core.specs.Reply.{reply, terms_at, standing_at}
 use Rattle.send_core.specs.Stands.{StandsFor, Steps, pacing_for}
 use Rattle.send_core.specs.Recording.{TakesSent}
+use Rattle.send_core.proofs.Lowering.{lowered-later}
 use Rattle.send_core.proofs.Recorded.{reports-added}
 use Rattle.send_core.proofs.StepsMade.{later-in_time}
 
@@ -105,6 +106,19 @@ takes-sent h p moment more s short few late =
       few = omega arith;
       few_reports = omega (arith, s.laws.few_reports);
       order = omega (arith, s.laws.last, s.clock);
+    }
+
+-- ---- what it asks of the media level
+
+pub may-lower : (h : List Entry) (p x : Parts) (moment : ℕ) → StandsFor p h → length h < MOST_ENTRIES → x ≡ record p { pacer = advanced p.pacer moment }
+    → MayLower MOST_SENDS x.pacer.media
+may-lower h p x moment s short moves =
+    let sent_few : length (sent h) ≤ MOST_SENDS * length h = s.laws.few in
+    let low : IsLowered (length (sent h)) p.pacer.media = subst (IsLowered (length (sent h))) (sym s.media.least) s.laws.lowered in
+    record {
+      sends = length (sent h);
+      lowered = subst (λ (y : Parts). IsLowered (length (sent h)) y.pacer.media) (sym moves) (lowered-later (length (sent h)) _ _ p.pacer.media low);
+      room = omega arith;
     }
 
 -- ---- what it does to the parts

@@ -18,6 +18,7 @@ use Rattle.estimator.specs.Est.{Est}
 use Rattle.estimator.specs.Kept.{IsUntil}
 use Rattle.estimator.specs.Kept as estimator
 use Rattle.pacer.specs.declared.pacing.Pacing.{Pacing}
+use Rattle.pacer.specs.Course.{IsLowered}
 use Rattle.pacer.specs.Force.{in_force}
 use Rattle.pacer.specs.Pace.{NamesBelow, unsent, padding_after}
 use Rattle.pacer.specs.Afters.{spending, has_media}
@@ -67,6 +68,7 @@ pub record IsOutgoing (moment planned : ℕ) (p : Outgoing) : Type 0 where
 pub record Laws (history : List Entry) : Type 0 where
   pub in_time : now history ≤ GREATEST_MOMENT
   pub few : length (sent history) ≤ MOST_SENDS * length history
+  pub lowered : IsLowered (length (sent history)) (bucket.level (deeds history))
   pub known : All (NamesBelow (length (accepted history))) (sent history)
   pub readable : All (IsReadable (extension_id history)) (accepted history)
   pub set : AreSettings (settings history)

@@ -1,25 +1,27 @@
 -- Paced media over a span is bounded.
-use Rattle.std.proofs.Common.{◌≡◌, ℕ, ℤ, pos, ◌+◌, ◌-◌, ◌*◌, ◌≤◌, ◌+ℤ◌, ◌≤ℤ◌, List, [], ◌∷◌, ◌++◌, fold, refl, sym, ◌∙◌, ap, subst, append_assoc, arith}
+use Rattle.std.proofs.Common.{◌≡◌, ℕ, ℤ, pos, ◌+◌, ◌-◌, ◌*◌, ◌≤◌, ◌||◌, ◌+ℤ◌, ◌≤ℤ◌, Bool, true, false, cond, Option, List, [], ◌∷◌, ◌++◌, fold, refl, sym, ◌∙◌, ap, subst, append_assoc, arith}
 use Rattle.std.specs.List.{flat_map}
 use Rattle.std.specs.Int.{int_min}
 use Rattle.std.proofs.lemmas.Int.{ints, clamps}
-use Rattle.std.proofs.lemmas.List.Sums.{fold-append, sum_by-append, sum_by-cons}
+use Rattle.std.proofs.lemmas.List.Sums.{fold-append, sum_by-append}
 use Rattle.gcc_units.specs.declared.limits.TheConstants.{MOST_SENDS}
 use Rattle.gcc_units.specs.Walk.{each_by, flat_each-push}
-use Rattle.pace_budget.specs.Level.{Deed, Advance, Spend, level, bits}
+use Rattle.pace_budget.specs.Level.{Deed, Advance, level, bits}
 use Rattle.pace_budget.specs.Steps.{step, level-step, StandsFor-steps}
 use Rattle.pace_budget.specs.Spans.{Opens, Opens-append, Count, count, none_counted, IsWithin, count-within}
 use Rattle.pacer.specs.declared.sent.Sent.{Sent}
 use Rattle.pacer.specs.declared.sent.Kind.{Kind}
 use Rattle.pacer.specs.declared.sent.Kind.TheVariants as kind
-use Rattle.pacer.specs.Pace.{deed_by, paced}
+use Rattle.pacer.specs.Afters.{has_media}
+use Rattle.pacer.specs.Pace.{deed_by, deed_of, paced}
 use Rattle.pacer.specs.Sends.{paced-opens}
 use Rattle.send_core.specs.declared.call.Entry.{Entry}
 use Rattle.send_core.specs.History.{later, now, sent, sent_by}
 use Rattle.send_core.specs.Levels.{rate, window, passing, spending, deeds_by, deeds}
 use Rattle.send_core.specs.Reply.{terms_at, standing_at, IsLegal}
-use Rattle.send_laws.specs.Spans.{size_as, media_size, media_bytes, last_as, last_media, integral}
+use Rattle.send_laws.specs.Spans.{media_bytes, spent_size, all_spent, spent_bytes, last_as, last_media, integral}
 use Rattle.send_laws.proofs.Sending.{legal-sends}
+use Rattle.send_laws.proofs.Spent.{or-nil, or-true, has_media-append, spent-none, spent-front, spent-all, media-few}
 
 abbrev deeds_from : List Entry → List Entry → List Deed
 deeds_from before rest = flat_map (λ (ds : List Deed). ds) (each_by deeds_by before rest)
@@ -49,87 +51,103 @@ rest-opens before (e ∷ rest) legal =
 abbrev last_from : ℕ → List Sent → ℕ
 last_from last records = fold (λ l (r : Sent). last_as l r.kind r.size) last records
 
-record Counted (n m : Count) (bytes gain end : ℕ) : Type 0 where
-  all : m.all ≡ n.all +ℤ bits bytes
+-- what a list of records adds to what was counted
+record Counted (n m : Count) (rs : List Sent) (gain : ℕ) : Type 0 where
+  taken : (m.all +ℤ m.since) ≡ (n.all +ℤ n.since +ℤ bits (all_spent rs))
+  all : m.all ≡ cond (has_media rs) (n.all +ℤ n.since +ℤ bits (spent_bytes rs)) n.all
   gained : m.gained ≡ n.gained + gain
-  last : m.last ≡ end
+  last : m.last ≡ last_from n.last rs
 
--- a record that spends nothing adds no bytes
-nothing-more : (n m : Count) (b g end : ℕ) → Counted n m b g end → Counted n m (0 + b) g end
-nothing-more n m b g end h = record { all = omega (arith, ints, h.all); gained = h.gained; last = h.last }
+none-counted : (n : Count) → Counted n n [] 0
+none-counted n = record { taken = omega (arith, ints); all = refl; gained = omega arith; last = refl }
 
-sends-counted : (n : Count) (rs : List Sent) → Counted n (fold count n (spending rs)) (media_bytes rs) 0 (last_from n.last rs)
-sends-counted n [] = record { all = omega (arith, ints); gained = omega arith; last = refl }
-sends-counted n (r ∷ rs) =
-    rw (sum_by-cons media_size r rs) (by_kind r.kind r.size (λ k. sends-counted k rs))
-  where
-    by_kind : (k : Kind) (size : ℕ) → ((m : Count) → Counted m (fold count m (spending rs)) (media_bytes rs) 0 (last_from m.last rs))
-        → Counted n (fold count n (deed_by k size ++ spending rs)) (size_as k size + media_bytes rs) 0 (last_from (last_as n.last k size) rs)
-    by_kind kind.Audio size more = nothing-more n (fold count n (spending rs)) (media_bytes rs) 0 (last_from n.last rs) (more n)
-    by_kind kind.Media size more =
-        let h : Counted (count n (Spend size)) (fold count (count n (Spend size)) (spending rs)) (media_bytes rs) 0 (last_from size rs) = more (count n (Spend size)) in
-        record { all = omega (arith, ints, h.all); gained = h.gained; last = h.last }
-    by_kind (kind.Probe id) size more = nothing-more n (fold count n (spending rs)) (media_bytes rs) 0 (last_from n.last rs) (more n)
-    by_kind kind.Padding size more = nothing-more n (fold count n (spending rs)) (media_bytes rs) 0 (last_from n.last rs) (more n)
-
--- one count after another
-counted-then : (n m k : Count) (a b g l end : ℕ) → Counted n m a 0 l → Counted m k b g end → Counted n k (a + b) g end
-counted-then n m k a b g l end first second = record {
-  all = omega (arith, ints, first.all, second.all);
+-- more records behind these
+counted-then : (n m k : Count) (xs ys : List Sent) (g : ℕ) → Counted n m xs 0 → Counted m k ys g → Counted n k (xs ++ ys) g
+counted-then n m k xs ys g first second = record {
+  taken = omega (arith, ints, first.taken, second.taken, sum_by-append spent_size xs ys);
+  all = by_media (has_media ys) refl;
   gained = omega (arith, first.gained, second.gained);
-  last = second.last;
+  last = second.last ∙ (ap (λ l. last_from l ys) first.last ∙ sym (fold-append (λ l (r : Sent). last_as l r.kind r.size) n.last xs ys));
 }
+  where
+    by_media : (b : Bool) → has_media ys ≡ b → k.all ≡ cond (has_media (xs ++ ys)) (n.all +ℤ n.since +ℤ bits (spent_bytes (xs ++ ys))) n.all
+    by_media true some =
+        let later : has_media (xs ++ ys) ≡ true = has_media-append xs ys ∙ (ap (λ b. has_media xs || b) some ∙ or-true (has_media xs)) in
+        let here : k.all ≡ m.all +ℤ m.since +ℤ bits (spent_bytes ys) = second.all ∙ ap (λ b. cond b (m.all +ℤ m.since +ℤ bits (spent_bytes ys)) m.all) some in
+        rw later (omega (arith, ints, here, first.taken, spent-all xs ys some))
+    by_media false none =
+        let before : has_media (xs ++ ys) ≡ has_media xs = has_media-append xs ys ∙ (ap (λ b. has_media xs || b) none ∙ or-nil (has_media xs)) in
+        rw (before, spent-front xs ys none) (second.all ∙ (ap (λ b. cond b (m.all +ℤ m.since +ℤ bits (spent_bytes ys)) m.all) none ∙ first.all))
+
+one-counted : (n : Count) (r : Sent) → Counted n (fold count n (deed_of r)) (r ∷ []) 0
+one-counted n r = by_kind r.number r.index r.kind r.size
+  where
+    by_kind : (number : ℕ) (index : Option ℕ) (k : Kind) (size : ℕ)
+        → Counted n (fold count n (deed_by k size)) (record { number = number; index = index; kind = k; size = size } ∷ []) 0
+    by_kind number index kind.Audio size = record { taken = omega (arith, ints); all = refl; gained = omega arith; last = refl }
+    by_kind number index kind.Media size = record { taken = omega (arith, ints); all = omega (arith, ints); gained = omega arith; last = refl }
+    by_kind number index (kind.Probe id) size = record { taken = omega (arith, ints); all = refl; gained = omega arith; last = refl }
+    by_kind number index kind.Padding size = record { taken = omega (arith, ints); all = refl; gained = omega arith; last = refl }
+
+sends-counted : (n : Count) (rs : List Sent) → Counted n (fold count n (spending rs)) rs 0
+sends-counted n [] = none-counted n
+sends-counted n (r ∷ rs) =
+    let m : Count = fold count n (deed_of r) in
+    rw (fold-append count n (deed_of r) (spending rs)) (counted-then n m (fold count m (spending rs)) (r ∷ []) rs 0 (one-counted n r) (sends-counted m rs))
 
 -- time that passed before it
-counted-later : (n : Count) (rate dt w : ℕ) (k : Count) (b g end : ℕ) → Counted (count n (Advance rate dt w)) k b g end → Counted n k b (rate * dt + g) end
-counted-later n rate dt w k b g end h = record { all = h.all; gained = omega (arith, h.gained); last = h.last }
+counted-later : (n : Count) (rate dt w : ℕ) (k : Count) (rs : List Sent) (g : ℕ) → Counted (count n (Advance rate dt w)) k rs g → Counted n k rs (rate * dt + g)
+counted-later n rate dt w k rs g h = record { taken = h.taken; all = h.all; gained = omega (arith, h.gained); last = h.last }
 
 -- sends, and then more deeds
-sends-then : (n : Count) (rs : List Sent) (ds : List Deed) (more : List Sent) (g : ℕ)
-    → ((m : Count) → Counted m (fold count m ds) (media_bytes more) g (last_from m.last more))
-    → Counted n (fold count n (spending rs ++ ds)) (media_bytes (rs ++ more)) g (last_from n.last (rs ++ more))
+sends-then : (n : Count) (rs : List Sent) (ds : List Deed) (more : List Sent) (g : ℕ) → ((m : Count) → Counted m (fold count m ds) more g)
+    → Counted n (fold count n (spending rs ++ ds)) (rs ++ more) g
 sends-then n rs ds more g h =
     let m : Count = fold count n (spending rs) in
-    let first : Counted n m (media_bytes rs) 0 (last_from n.last rs) = sends-counted n rs in
-    let second : Counted m (fold count m ds) (media_bytes more) g (last_from m.last more) = h m in
-    let ends : last_from m.last more ≡ last_from n.last (rs ++ more) =
-    ap (λ l. last_from l more) first.last ∙ sym (fold-append (λ l (r : Sent). last_as l r.kind r.size) n.last rs more) in
-    rw (fold-append count n (spending rs) ds, sum_by-append media_size rs more)
-    (counted-then n m (fold count m ds) (media_bytes rs) (media_bytes more) g (last_from n.last rs) (last_from n.last (rs ++ more)) first
-    (subst (Counted m (fold count m ds) (media_bytes more) g) ends second))
+    rw (fold-append count n (spending rs) ds) (counted-then n m (fold count m ds) rs more g (sends-counted n rs) (h m))
 
-rest-counted : (n : Count) (before rest : List Entry)
-    → Counted n (fold count n (deeds_from before rest)) (media_bytes (sent rest)) (integral before rest) (last_from n.last (sent rest))
-rest-counted n before [] = record { all = omega (arith, ints); gained = omega arith; last = refl }
+rest-counted : (n : Count) (before rest : List Entry) → Counted n (fold count n (deeds_from before rest)) (sent rest) (integral before rest)
+rest-counted n before [] = none-counted n
 rest-counted n before (e ∷ rest) =
     let m : ℕ = later (now before) e.call in
     let more : List Deed = deeds_from (before ++ e ∷ []) rest in
     let past : Count = count n (passing before m) in
     counted-later n (rate before) (m - now before) (window before)
-    (fold count past (spending (sent_by e.reply) ++ more))
-    (media_bytes (sent_by e.reply ++ sent rest)) (integral (before ++ e ∷ []) rest) (last_from n.last (sent_by e.reply ++ sent rest))
+    (fold count past (spending (sent_by e.reply) ++ more)) (sent_by e.reply ++ sent rest) (integral (before ++ e ∷ []) rest)
     (sends-then past (sent_by e.reply) more (sent rest) (integral (before ++ e ∷ []) rest) (λ k. rest-counted k (before ++ e ∷ []) rest))
 
-within-is : (n : Count) (b g most end : ℕ) → Counted none_counted n b g end → IsWithin (pos most) n → 8000000 * b ≤ g + most + 8000000 * end
-within-is n b g most end h within = omega (arith, ints, h.all, h.gained, h.last, within)
+within-is : (n : Count) (rs : List Sent) (g most : ℕ) → Counted none_counted n rs g → IsWithin (pos most) n
+    → 8000000 * spent_bytes rs ≤ g + most + 8000000 * last_media rs
+within-is n rs g most h within = by_media (has_media rs) refl
+  where
+    by_media : (b : Bool) → has_media rs ≡ b → 8000000 * spent_bytes rs ≤ g + most + 8000000 * last_media rs
+    by_media true some =
+        let all : n.all ≡ pos 0 +ℤ pos 0 +ℤ bits (spent_bytes rs) = h.all ∙ ap (λ b. cond b (pos 0 +ℤ pos 0 +ℤ bits (spent_bytes rs)) (pos 0)) some in
+        omega (arith, ints, all, h.gained, h.last, within)
+    by_media false none = omega (arith, spent-none rs none)
 
-cut : (a : ℤ) (gain most : ℕ) → (int_min (a +ℤ pos gain) (pos most) +ℤ pos 0) ≤ℤ (pos most +ℤ pos 0)
+cut : (a : ℤ) (gain most : ℕ) → (int_min (a +ℤ pos gain) (pos most) +ℤ pos 0 +ℤ pos 0) ≤ℤ (pos most +ℤ pos 0)
 cut a gain most = omega (arith, ints, clamps)
 
 nothing : (most : ℕ) → IsWithin (pos most) none_counted
 nothing most = omega (arith, ints)
 
--- paced media of a span is at most what the rates come to over it, what the window holds, and the last packet
-pub media-bounded : (before rest : List Entry) (first : Entry) → IsLegal (before ++ first ∷ rest)
-    → 8000000 * media_bytes (sent (first ∷ rest))
+-- paced media of a span, with the probes before the last of it, is at most what the rates come to over it, what the window holds, and the last media packet
+pub spent-bounded : (before rest : List Entry) (first : Entry) → IsLegal (before ++ first ∷ rest)
+    → 8000000 * spent_bytes (sent (first ∷ rest))
     ≤ integral (before ++ first ∷ []) rest + rate before * window before + 8000000 * last_media (sent (first ∷ rest))
-media-bounded before rest first legal =
+spent-bounded before rest first legal =
     let more : List Deed = deeds_from (before ++ first ∷ []) rest in
     let m : ℕ = later (now before) first.call in
     let held : ℤ = step (level (deeds before)) (passing before m) in
     let opens : Opens held (spending (sent_by first.reply) ++ more) = rest-opens before (first ∷ rest) legal in
-    within-is (fold count none_counted (spending (sent_by first.reply) ++ more)) (media_bytes (sent (first ∷ rest))) (integral (before ++ first ∷ []) rest)
-    (rate before * window before) (last_media (sent (first ∷ rest)))
+    within-is (fold count none_counted (spending (sent_by first.reply) ++ more)) (sent (first ∷ rest)) (integral (before ++ first ∷ []) rest) (rate before * window before)
     (sends-then none_counted (sent_by first.reply) more (sent rest) (integral (before ++ first ∷ []) rest) (λ k. rest-counted k (before ++ first ∷ []) rest))
     (count-within (pos (rate before * window before)) held none_counted (spending (sent_by first.reply) ++ more) opens
     (cut (level (deeds before)) (rate before * (m - now before)) (rate before * window before)) (nothing (rate before * window before)))
+
+-- so is paced media alone
+pub media-bounded : (before rest : List Entry) (first : Entry) → IsLegal (before ++ first ∷ rest)
+    → 8000000 * media_bytes (sent (first ∷ rest))
+    ≤ integral (before ++ first ∷ []) rest + rate before * window before + 8000000 * last_media (sent (first ∷ rest))
+media-bounded before rest first legal = omega (arith, media-few (sent (first ∷ rest)), spent-bounded before rest first legal)

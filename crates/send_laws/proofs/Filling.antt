@@ -14,8 +14,8 @@ use Rattle.pacer.specs.Pace.{deed_by}
 use Rattle.send_core.specs.declared.call.Entry.{Entry}
 use Rattle.send_core.specs.History.{now, sent, sent_by}
 use Rattle.send_core.specs.Levels.{rate, window, passing, spending, deeds_by, level_at}
-use Rattle.send_laws.specs.Spans.{size_as, media_size, media_bytes, integral}
-use Rattle.send_laws.specs.Fills.{came_in, less_media, full_at, fills, IsLeastFill}
+use Rattle.send_laws.specs.Spans.{spent_as, spent_size, all_spent, integral}
+use Rattle.send_laws.specs.Fills.{came_in, less_spent, full_at, fills, IsLeastFill}
 
 abbrev deeds_from : List Entry → List Entry → List Deed
 deeds_from before rest = flat_map (λ (ds : List Deed). ds) (each_by deeds_by before rest)
@@ -26,12 +26,12 @@ up_to before rest moment = deeds_from before rest ++ passing (before ++ rest) mo
 
 -- ---- sends
 
-spending-inflow : (rs : List Sent) (ds : List Deed) → inflow (spending rs ++ ds) ≡ inflow ds -ℤ bits (media_bytes rs)
+spending-inflow : (rs : List Sent) (ds : List Deed) → inflow (spending rs ++ ds) ≡ inflow ds -ℤ bits (all_spent rs)
 spending-inflow [] ds = omega (arith, ints)
-spending-inflow (r ∷ rs) ds = rw (sum_by-cons media_size r rs) (by_kind r.kind r.size (spending-inflow rs ds))
+spending-inflow (r ∷ rs) ds = rw (sum_by-cons spent_size r rs) (by_kind r.kind r.size (spending-inflow rs ds))
   where
-    by_kind : (k : Kind) (size : ℕ) → inflow (spending rs ++ ds) ≡ inflow ds -ℤ bits (media_bytes rs)
-        → inflow ((deed_by k size ++ spending rs) ++ ds) ≡ inflow ds -ℤ bits (size_as k size + media_bytes rs)
+    by_kind : (k : Kind) (size : ℕ) → inflow (spending rs ++ ds) ≡ inflow ds -ℤ bits (all_spent rs)
+        → inflow ((deed_by k size ++ spending rs) ++ ds) ≡ inflow ds -ℤ bits (spent_as k size + all_spent rs)
     by_kind kind.Audio size h = omega (arith, ints, h)
     by_kind kind.Media size h = omega (arith, ints, h)
     by_kind (kind.Probe id) size h = omega (arith, ints, h)
@@ -59,20 +59,20 @@ regrouped before e rest moment =
     append_assoc (spending (sent_by e.reply)) (deeds_from (before ++ e ∷ []) rest) (passing (before ++ e ∷ rest) moment ∷ [])
     ∙ ap (λ (h : List Entry). spending (sent_by e.reply) ++ (deeds_from (before ++ e ∷ []) rest ++ passing h moment ∷ [])) (sym (append_assoc before (e ∷ []) rest))
 
--- the media of an entry and of those behind it
-media-more : (e : Entry) (rest : List Entry) → media_bytes (sent (e ∷ rest)) ≡ media_bytes (sent_by e.reply) + media_bytes (sent rest)
-media-more e rest = sum_by-append media_size (sent_by e.reply) (sent rest)
+-- what an entry and those behind it spent
+spent-more : (e : Entry) (rest : List Entry) → all_spent (sent (e ∷ rest)) ≡ all_spent (sent_by e.reply) + all_spent (sent rest)
+spent-more e rest = sum_by-append spent_size (sent_by e.reply) (sent rest)
 
 behind-inflow : (before : List Entry) (e : Entry) (rest : List Entry) (moment : ℕ)
-    → inflow (up_to (before ++ e ∷ []) rest moment) ≡ less_media (came_in (before ++ e ∷ []) rest moment) rest
-    → inflow (behind before e rest moment) ≡ less_media (came_in (before ++ e ∷ []) rest moment) (e ∷ rest)
+    → inflow (up_to (before ++ e ∷ []) rest moment) ≡ less_spent (came_in (before ++ e ∷ []) rest moment) rest
+    → inflow (behind before e rest moment) ≡ less_spent (came_in (before ++ e ∷ []) rest moment) (e ∷ rest)
 behind-inflow before e rest moment h =
     let grouped = ap inflow (regrouped before e rest moment) in
     let spent = spending-inflow (sent_by e.reply) (up_to (before ++ e ∷ []) rest moment) in
-    let media = media-more e rest in
-    omega (arith, ints, grouped, spent, media, h)
+    let all = spent-more e rest in
+    omega (arith, ints, grouped, spent, all, h)
 
-all-inflow : (before rest : List Entry) (moment : ℕ) → inflow (up_to before rest moment) ≡ less_media (came_in before rest moment) rest
+all-inflow : (before rest : List Entry) (moment : ℕ) → inflow (up_to before rest moment) ≡ less_spent (came_in before rest moment) rest
 all-inflow before [] moment = omega (arith, ints)
 all-inflow before (e ∷ rest) moment =
     let tail = behind-inflow before e rest moment (all-inflow (before ++ e ∷ []) rest moment) in

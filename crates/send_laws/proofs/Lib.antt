@@ -1,6 +1,8 @@
 pub mod Sending
 pub mod Ordering
 pub mod Numbering
+pub mod Spent
+pub mod BudgetCounts
 pub mod Bounding
 pub mod Padding
 pub mod Crediting

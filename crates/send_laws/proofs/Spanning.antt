@@ -11,7 +11,7 @@ use Rattle.send_laws.specs.Spans.{span}
 use Rattle.send_laws.specs.Budgets.{bytes_of, last_from, rate_of, integral_of}
 use Rattle.send_laws.specs.declared.budget.Budget.{Budget}
 use Rattle.send_laws.specs.declared.budget.Budget.TheVariants.{Media, Padding}
-use Rattle.send_laws.proofs.Bounding.{media-bounded}
+use Rattle.send_laws.proofs.Bounding.{spent-bounded}
 use Rattle.send_laws.proofs.Padding.{padding-bounded}
 
 -- ---- lists
@@ -76,7 +76,7 @@ legal-at h k e is legal = subst IsLegal (take-next h k e is) (legal-take (k + 1)
 budget-bounded : (b : Budget) (before rest : List Entry) (first : Entry) → IsLegal (before ++ first ∷ rest)
     → 8000000 * bytes_of b (sent (first ∷ rest))
     ≤ integral_of b (before ++ first ∷ []) rest + rate_of b before * window before + 8000000 * last_from b 0 (sent (first ∷ rest))
-budget-bounded Media before rest first legal = media-bounded before rest first legal
+budget-bounded Media before rest first legal = spent-bounded before rest first legal
 budget-bounded Padding before rest first legal = padding-bounded before rest first legal
 
 bounded-along : (b : Budget) (before rest upto all : List Entry) (first : Entry) → all ≡ first ∷ rest → upto ≡ before ++ first ∷ [] → IsLegal (before ++ all)

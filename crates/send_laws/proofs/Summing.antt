@@ -7,7 +7,7 @@ use Rattle.std.proofs.Math.Nat.{mul-le-mul_right}
 use Rattle.std.proofs.lemmas.Bool.Decides.{nat_tests}
 use Rattle.std.proofs.lemmas.Int.{to_z_pos}
 use Rattle.std.proofs.lemmas.List.{append-nil}
-use Rattle.std.proofs.lemmas.List.Sums.{fold-append, sum_by-append}
+use Rattle.std.proofs.lemmas.List.Sums.{fold-append}
 use Rattle.std.proofs.lemmas.Option.{slice_get_within}
 use Rattle.gcc_units.specs.Walk.{flat_map-push}
 use Rattle.gcc_units.specs.declared.limits.TheConstants.{GREATEST_MOMENT, MOST_WAITING, MOST_SENDS}
@@ -17,6 +17,7 @@ use Rattle.rtp_wire.specs.Place.{place_of}
 use Rattle.twcc_report.specs.declared.fault.ReportFault.{ReportFault}
 use Rattle.twcc_report.specs.Spelling.{Feedback}
 use Rattle.twcc_report.specs.Reading.{read_of}
+use Rattle.pacer.specs.declared.sent.Sent.{Sent}
 use Rattle.pacer.specs.Sends.{paced-few}
 use Rattle.send_core.specs.declared.call.Call.{Call}
 use Rattle.send_core.specs.declared.call.Call.TheVariants.{Enqueue, Pace, Report, Configure}
@@ -27,9 +28,11 @@ use Rattle.send_core.specs.History.{at_of, later, now, accepted, sent, sent_by, 
 use Rattle.send_core.specs.Settings.{fault_of}
 use Rattle.send_core.specs.Reply.{extension_id, enqueued, reported, configured, standing, terms_at, standing_at, reply_in_time, reply, IsLegal}
 use Rattle.send_laws.specs.Moments.{moment_in}
-use Rattle.send_laws.specs.Budgets.{size_by, bytes_of, last_by, last_from, rate_of, integral_of}
+use Rattle.send_laws.specs.Budgets.{rate_of, integral_of, IsCount}
 use Rattle.send_laws.specs.declared.budget.Budget.{Budget}
+use Rattle.send_laws.specs.declared.budget.Counted.{Counted}
 use Rattle.send_laws.specs.declared.budget.Budget.TheVariants.{Media, Padding}
+use Rattle.send_laws.proofs.BudgetCounts.{count-none}
 use Rattle.send_laws.proofs.Sending.{legal-reply, legal-sends}
 use Rattle.send_laws.proofs.Spanning.{take-next, rejoined, between-none, between-more, legal-at}
 
@@ -105,25 +108,21 @@ few-at h k e is legal =
     (paced-few MOST_SENDS (terms_at (take k h) m) (standing_at (take k h) m))
 
 -- what was counted from entry i on, before entry k
-pub record IsCounted (b : Budget) (h : List Entry) (i k bytes last : ℕ) : Type 0 where
-  pub bytes_are : bytes ≡ bytes_of b (sent (drop i (take k h)))
-  pub last_is : last ≡ last_from b 0 (sent (drop i (take k h)))
-  pub few : bytes ≤ 2 ^ 32 * (MOST_SENDS * k)
+pub record IsCounted (b : Budget) (h : List Entry) (i k : ℕ) (c : Counted) : Type 0 where
+  pub counts : IsCount b (sent (drop i (take k h))) c
+  pub few : c.bytes + c.since ≤ 2 ^ 32 * (MOST_SENDS * k)
 
-pub counted-none : (b : Budget) (h : List Entry) (i : ℕ) → IsCounted b h i i 0 0
-counted-none b h i = record { bytes_are = rw (between-none h i) refl; last_is = rw (between-none h i) refl; few = omega arith }
+pub counted-none : (b : Budget) (h : List Entry) (i : ℕ) → IsCounted b h i i (record { bytes = 0; since = 0; last = 0 })
+counted-none b h i = record { counts = rw (between-none h i) (count-none b); few = omega arith }
 
-pub counted-more : (b : Budget) (h : List Entry) (i k bytes last more end : ℕ) (e : Entry) → i ≤ k → slice_get h k ≡ Some e → IsLegal h
-    → IsCounted b h i k bytes last → more ≡ bytes + bytes_of b (sent_by e.reply) → end ≡ last_from b last (sent_by e.reply)
-    → more ≤ bytes + 2 ^ 32 * length (sent_by e.reply) → IsCounted b h i (k + 1) more end
-counted-more b h i k bytes last more end e le is legal so_far adds ends little =
+pub counted-more : (b : Budget) (h : List Entry) (i k : ℕ) (c more : Counted) (e : Entry) → i ≤ k → slice_get h k ≡ Some e → IsLegal h → IsCounted b h i k c
+    → ((records : List Sent) → IsCount b records c → IsCount b (records ++ sent_by e.reply) more)
+    → more.bytes + more.since ≤ c.bytes + c.since + 2 ^ 32 * length (sent_by e.reply) → IsCounted b h i (k + 1) more
+counted-more b h i k c more e le is legal so_far adds little =
     let all : sent (drop i (take (k + 1) h)) ≡ sent (drop i (take k h)) ++ sent_by e.reply =
     ap sent (between-more h i k e le is) ∙ flat_map-push (λ (x : Entry). sent_by x.reply) (drop i (take k h)) e in
     record {
-      bytes_are = adds ∙ (ap (λ n. n + bytes_of b (sent_by e.reply)) so_far.bytes_are
-          ∙ (sym (sum_by-append (size_by b) (sent (drop i (take k h))) (sent_by e.reply)) ∙ ap (bytes_of b) (sym all)));
-      last_is = ends ∙ (ap (λ l. last_from b l (sent_by e.reply)) so_far.last_is
-          ∙ (sym (fold-append (last_by b) 0 (sent (drop i (take k h))) (sent_by e.reply)) ∙ ap (last_from b 0) (sym all)));
+      counts = subst (λ rs. IsCount b rs more) (sym all) (adds (sent (drop i (take k h))) so_far.counts);
       few = omega (arith, so_far.few, little, few-at h k e is legal);
     }
 

@@ -4,23 +4,23 @@ use Rattle.pace_budget.specs.Level.{bits, IsAtMost}
 use Rattle.send_core.specs.declared.call.Entry.{Entry}
 use Rattle.send_core.specs.History.{now, sent}
 use Rattle.send_core.specs.Levels.{rate, window}
-use Rattle.send_laws.specs.Spans.{media_bytes, integral}
+use Rattle.send_laws.specs.Spans.{all_spent, integral}
 
 -- what the rates in force come to, from the last of the entries before to a moment behind the rest
 abbrev pub came_in : List Entry → List Entry → ℕ → ℕ
 came_in before rest moment = integral before rest + rate (before ++ rest) * (moment - now (before ++ rest))
 
--- less the media that these entries sent
-abbrev pub less_media : ℕ → List Entry → ℤ
-less_media gain entries = pos gain -ℤ bits (media_bytes (sent entries))
+-- less the media and the probes that these entries sent
+abbrev pub less_spent : ℕ → List Entry → ℤ
+less_spent gain entries = pos gain -ℤ bits (all_spent (sent entries))
 
--- empty at first: all that came in, less all media
+-- empty at first: all that came in, less all media and probes
 abbrev pub from_nothing : List Entry → ℕ → ℤ
-from_nothing history moment = less_media (came_in [] history moment) history
+from_nothing history moment = less_spent (came_in [] history moment) history
 
--- full at an entry: the rate in force before it times the window, and what came in from it on, less its media and those behind it
+-- full at an entry: the rate in force before it times the window, and what came in from it on, less what it and those behind it spent
 abbrev pub full_at : List Entry → Entry → List Entry → ℕ → ℤ
-full_at before e rest moment = less_media (rate before * window before + came_in (before ++ e ∷ []) rest moment) (e ∷ rest)
+full_at before e rest moment = less_spent (rate before * window before + came_in (before ++ e ∷ []) rest moment) (e ∷ rest)
 
 -- so for each of the rest, and full when the call is served at the moment
 abbrev pub fills : List Entry → List Entry → ℕ → List ℤ

@@ -1,9 +1,11 @@
--- The paced media of a span of a history, and what the rates in force come to over it. A span goes
--- from the sends of its first entry to those of its last.
-use Rattle.std.specs.Prelude.{ℕ, ◌+◌, ◌-◌, ◌*◌, List, [], ◌∷◌, ◌++◌, take, drop, fold, sum_by}
+-- The paced media and the probes of a span of a history, and what the rates in force come to over it.
+-- A span goes from the sends of its first entry to those of its last.
+use Rattle.std.specs.Prelude.{ℕ, ◌+◌, ◌-◌, ◌*◌, ◌||◌, if◌then◌else◌, List, [], ◌∷◌, ◌++◌, take, drop, fold, sum_by}
 use Rattle.pacer.specs.declared.sent.Sent.{Sent}
 use Rattle.pacer.specs.declared.sent.Kind.{Kind}
 use Rattle.pacer.specs.declared.sent.Kind.TheVariants as kind
+use Rattle.pacer.specs.Pace.{is_media}
+use Rattle.pacer.specs.Afters.{has_media}
 use Rattle.send_core.specs.declared.call.Entry.{Entry}
 use Rattle.send_core.specs.History.{later, now}
 use Rattle.send_core.specs.Levels.{rate, padding_rate}
@@ -36,6 +38,28 @@ last_as last kind.Padding size = last
 -- the size of the last record of kind Media, 0 where there is none
 abbrev pub last_media : List Sent → ℕ
 last_media records = fold (λ last (r : Sent). last_as last r.kind r.size) 0 records
+
+abbrev pub spent_as : Kind → ℕ → ℕ
+spent_as kind.Audio size = 0
+spent_as kind.Media size = size
+spent_as (kind.Probe id) size = size
+spent_as kind.Padding size = 0
+
+-- the bytes of a record that spends the media level: of kind Media or Probe
+abbrev pub spent_size : Sent → ℕ
+spent_size r = spent_as r.kind r.size
+
+abbrev pub all_spent : List Sent → ℕ
+all_spent records = sum_by spent_size records
+
+-- the records up to the last one of kind Media; none where there is none
+abbrev pub up_to_media : List Sent → List Sent
+up_to_media [] = []
+up_to_media (r ∷ rs) = if is_media r.kind || has_media rs then r ∷ up_to_media rs else []
+
+-- the bytes of media, and of the probes before the last of it
+abbrev pub spent_bytes : List Sent → ℕ
+spent_bytes records = all_spent (up_to_media records)
 
 -- the rate in force times the time, from one entry to the next, from the last of the entries before
 abbrev pub integral : List Entry → List Entry → ℕ

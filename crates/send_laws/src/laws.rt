@@ -15,7 +15,7 @@ ghost use Rattle.send_laws.specs.Credits.{Brings, credits, number_of, credited_n
 ghost use Rattle.send_laws.specs.Fills.{IsLeastFill};
 ghost use Rattle.send_laws.specs.Order.{AreInOrder, AreFresh, AreNumbered};
 ghost use Rattle.send_laws.specs.Probes.{planned_rate, probe_sizes, probe_moments, before_last, last_of, time_over};
-ghost use Rattle.send_laws.specs.Spans.{media_bytes, last_media, integral, padding_bytes, last_padding, padding_integral};
+ghost use Rattle.send_laws.specs.Spans.{media_bytes, spent_bytes, last_media, integral, padding_bytes, last_padding, padding_integral};
 
 /// Law: the packets of a pace leave by priority and then by arrival: each record is of the packet
 /// that goes next among the accepted ones that no record so far is of, and of none only where none
@@ -37,8 +37,8 @@ pub fn numbers_are_places()
 
 /// Law: the media level when a call is served is the least of these numbers: for each entry, and for
 /// the call itself, what the level holds when it was full there (the rate in force before it times
-/// the window), with what came in since and without the media sent since; and what it holds when it
-/// was empty at first (in micro-bits).
+/// the window), with what came in since and without the media and the probes sent since; and what it
+/// holds when it was empty at first (in micro-bits).
 pub fn media_level_is_least()
     ensures { (history : List Entry) (moment : ℕ) → IsLeastFill (level_at history moment) history moment }
 {}
@@ -49,6 +49,16 @@ pub fn media_level_is_least()
 pub fn media_is_bounded()
     ensures { (before rest : List Entry) (first : Entry) → IsLegal (before ++ first ∷ rest)
         → 8000000 * media_bytes (sent (first ∷ rest))
+        ≤ integral (before ++ first ∷ []) rest + rate before * window before + 8000000 * last_media (sent (first ∷ rest)) }
+{}
+
+/// Law: over any span of entries, paced media together with the probes before the last of it is no
+/// more than what the rates in force come to from the first entry to the last, the rate in force
+/// before the first entry times the window, and the last media packet (in micro-bits; 8,000,000 a
+/// byte). Probes behind the last media packet are not bounded by it.
+pub fn media_and_probes_are_bounded()
+    ensures { (before rest : List Entry) (first : Entry) → IsLegal (before ++ first ∷ rest)
+        → 8000000 * spent_bytes (sent (first ∷ rest))
         ≤ integral (before ++ first ∷ []) rest + rate before * window before + 8000000 * last_media (sent (first ∷ rest)) }
 {}
 

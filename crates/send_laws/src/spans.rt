@@ -4,8 +4,8 @@ ghost use Rattle.std.specs.Prelude.{◌≡◌, pos, ◌+◌, ◌*◌, ◌<◌, �
 ghost use Rattle.send_core.specs.History.{sent};
 ghost use Rattle.send_core.specs.Levels.{rate, window, padding_rate};
 ghost use Rattle.send_core.specs.Reply.{IsLegal};
-ghost use Rattle.send_laws.specs.Spans.{span, media_bytes, last_media, integral, padding_bytes, last_padding, padding_integral};
-ghost use Rattle.send_laws.specs.Budgets.{bytes_of, last_from, rate_of, integral_of};
+ghost use Rattle.send_laws.specs.Spans.{span, spent_bytes, last_media, integral, padding_bytes, last_padding, padding_integral};
+ghost use Rattle.send_laws.specs.Budgets.{bytes_of, last_from, rate_of, integral_of, IsCount};
 
 use crate::budget::{Budget, Counted};
 use crate::reading::{entry_at, moment_of, tally_at};
@@ -16,22 +16,23 @@ use send_core::{Journal, Sender};
 /// sends of its first entry to those of its last.
 #[derive(Clone, Copy, PartialEq, Eq, Debug)]
 pub struct Span {
-    /// The bytes of the packets.
+    /// The bytes of the packets, and for media of the probes before the last of them.
     pub bytes: u64,
     /// The rate times the time, from the first entry to the last, in micro-bits.
     pub integral: Level,
     /// The rate times the window before the first entry, in micro-bits.
     pub window: Level,
-    /// The bytes of the last packet; 0 where there is none.
+    /// The bytes of the last packet, which is no probe; 0 where there is none.
     pub last: u32,
 }
 
-/// The paced media of entries `i` to `j`, both counted, by the rate in force. The bytes are no more
-/// than the integral, the window and the last packet (8,000,000 micro-bits a byte).
+/// The paced media of entries `i` to `j`, both counted, by the rate in force, with the probes that were
+/// sent before the last of it. The bytes are no more than the integral, the window and the last media
+/// packet (8,000,000 micro-bits a byte).
 pub fn span_media(sender: &Sender, i: u32, j: u32) -> Span
     requires order { i ≤ j }
     requires within { j < length sender.now }
-    ensures bytes { result.bytes ≡ media_bytes (sent (span i j sender.now)) }
+    ensures bytes { result.bytes ≡ spent_bytes (sent (span i j sender.now)) }
     ensures integral { result.integral ≡ pos (integral (take (i + 1) sender.now) (span (i + 1) j sender.now)) }
     ensures window { result.window ≡ pos (rate (take i sender.now) * window (take i sender.now)) }
     ensures last { result.last ≡ last_media (sent (span i j sender.now)) }
@@ -79,10 +80,13 @@ fn counted_over(budget: Budget, journal: &Journal, i: u32, j: u32) -> Counted
     requires order { i ≤ j }
     requires within { j < length journal.now.items }
     requires legal { IsLegal journal.now.items }
-    ensures bytes { result.bytes ≡ bytes_of budget (sent (span i j journal.now.items)) }
-    ensures last { result.last ≡ last_from budget 0 (sent (span i j journal.now.items)) }
+    ensures { IsCount budget (sent (span i j journal.now.items)) result }
 {
-    let mut counted = Counted { bytes: 0, last: 0 };
+    let mut counted = Counted {
+        bytes: 0,
+        since: 0,
+        last: 0,
+    };
     for k in i..j + 1 {
         counted = budget.with_reply(counted, &entry_at(journal, k).reply);
     }

@@ -3,7 +3,7 @@ use Rattle.gcc_units.specs.Listed.{Listed}
 use Rattle.gcc_units.specs.declared.limits.TheConstants.{MOST_SENDS}
 use Rattle.pacer.specs.declared.sent.Sent.{Sent}
 use Rattle.pacer.specs.Course.{standing}
-use Rattle.pacer.proofs.PaceLoop.{IsUnderWay, under_way-more, under_way-stopped, under_way-ended, room-now}
+use Rattle.pacer.proofs.PaceLoop.{IsUnderWay, under_way-more, under_way-stopped, under_way-ended, room-now, lower-now}
 use Rattle.pacer.proofs.course.run.Goals as goal
 
 pub returns-in_default-clause-records : goal.returns-in_default-clause-records
@@ -21,6 +21,11 @@ carry_out-requires-clause-room c =
     let below : length c.loop-number.out.items < MOST_SENDS = omega (arith, c.from.ensures, c.loop-number.invariant.2, c.loop-number.invariant.3) in
     room-now c.args.terms _ (standing c.loop-number.course c.loop-number.clusters.items c.loop-number.number) c.loop-number.out.items c.loop-number.invariant.0 below c.requires.clusters
 
+pub carry_out-requires-clause-few : goal.carry_out-requires-clause-few
+carry_out-requires-clause-few c =
+    let below : length c.loop-number.out.items < MOST_SENDS = omega (arith, c.from.ensures, c.loop-number.invariant.2, c.loop-number.invariant.3) in
+    lower-now c.args.terms _ (standing c.loop-number.course c.loop-number.clusters.items c.loop-number.number) c.loop-number.out.items c.loop-number.invariant.0 below c.requires.few
+
 pub loop-number-preserved : goal.loop-number-preserved
 loop-number-preserved c =
     let below : length c.loop-number.out.items < MOST_SENDS = omega (arith, c.from.ensures, c.loop-number.invariant.2, c.loop-number.invariant.3) in
@@ -30,7 +35,7 @@ loop-number-preserved c =
       subst (IsUnderWay c.args.terms (standing c.args.course.now c.args.clusters.now.items c.args.first) (standing c.carry_out.new.course c.carry_out.new.clusters.items (c.loop-number.number + 1))) (sym items)
           (under_way-more c.args.terms _ (standing c.loop-number.course c.loop-number.clusters.items c.loop-number.number) c.loop-number.out.items c.in-Some.sent
           (standing c.carry_out.new.course c.carry_out.new.clusters.items (c.loop-number.number + 1))
-          c.loop-number.invariant.0 below (sym c.choose.ensures ∙ c.in-Some.is) c.carry_out.ensures.after c.carry_out.ensures.stands c.carry_out.ensures.reached),
+          c.loop-number.invariant.0 below (sym c.choose.ensures ∙ c.in-Some.is) c.carry_out.ensures.after c.carry_out.ensures.stands c.carry_out.ensures.reached c.carry_out.ensures.lowered),
       c.carry_out.ensures.fit,
       c.loop-number.invariant.2,
       omega (arith, longer, c.loop-number.invariant.3),

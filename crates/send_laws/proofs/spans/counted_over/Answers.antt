@@ -8,6 +8,5 @@ with_reply-counted-requires c =
 
 pub loop-k-preserved : goal.loop-k-preserved
 loop-k-preserved c =
-    counted-more c.args.budget c.args.journal.now.items c.args.i c.loop-k.k c.loop-k.counted.bytes c.loop-k.counted.last
-    c.with_reply-counted.result.bytes c.with_reply-counted.result.last c.entry_at.result.now c.loop-k.auto.k c.entry_at.ensures c.requires.legal
-    c.loop-k.invariant c.with_reply-counted.ensures.bytes c.with_reply-counted.ensures.last c.with_reply-counted.ensures.few
+    counted-more c.args.budget c.args.journal.now.items c.args.i c.loop-k.k c.loop-k.counted c.with_reply-counted.result c.entry_at.result.now
+    c.loop-k.auto.k c.entry_at.ensures c.requires.legal c.loop-k.invariant c.with_reply-counted.ensures.counts c.with_reply-counted.ensures.few

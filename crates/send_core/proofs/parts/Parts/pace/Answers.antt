@@ -14,7 +14,7 @@ use Rattle.send_core.specs.declared.call.Call.TheVariants as call_kind
 use Rattle.send_core.specs.Bounds.{most_paced}
 use Rattle.send_core.proofs.FewSends.{paced-most}
 use Rattle.send_core.proofs.StepsMade.{steps_late}
-use Rattle.send_core.proofs.PaceMade.{paced-answer, takes-sent, steps_paced}
+use Rattle.send_core.proofs.PaceMade.{paced-answer, takes-sent, may-lower, steps_paced}
 use Rattle.send_core.proofs.parts.Parts.pace.Goals as goal
 
 pub returns-then-at-gt-GREATEST_MOMENT-clause-steps :
@@ -22,6 +22,10 @@ pub returns-then-at-gt-GREATEST_MOMENT-clause-steps :
 returns-then-at-gt-GREATEST_MOMENT-clause-steps c =
     steps_late (call_kind.Pace c.args.at) _ _ c.refuse_late.result c.args.self.now c.refuse_late.new.self
     c.if-at-gt-GREATEST_MOMENT.true c.refuse_late.ensures.reply c.refuse_late.ensures.parts
+
+pub pace-requires-clause-few : goal.pace-requires-clause-few
+pace-requires-clause-few c =
+    may-lower c.requires.stands.0 c.args.self.now c.move_to.new.self (max c.args.self.now.pacer.moment c.args.at) c.requires.stands.1 c.requires.stands.2 c.move_to.ensures
 
 pub record_sent-requires : goal.record_sent-requires
 record_sent-requires c =

@@ -28,3 +28,6 @@ pub const REPORTER: u32 = 2;
 
 /// The caller of the change that a run begins with (ours).
 pub const OPENER: u32 = 3;
+
+#[cfg(test)]
+mod tests;

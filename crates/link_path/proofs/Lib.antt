@@ -1,8 +1,8 @@
-mod Rising
-mod Offered
-mod LinkRuns
+pub mod Rising
+pub mod Offered
+pub mod LinkRuns
 mod LinkTimes
 mod Runs
 mod Built
-mod Heard
+pub mod Heard
 mod Writable

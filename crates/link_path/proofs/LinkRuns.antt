@@ -95,3 +95,6 @@ whole-from s before (asked moment ∷ events) link some w =
 
 pub whole : (s : LinkSettings) (events : List Event) → IsLink s → All HasBytes (offers events) → delivered s events ++ held s events ≡ arrivals s (offers events)
 whole s events link some = (whole-from s [] events link some (record { rises = omega arith; whole = refl })).whole
+
+pub held-rises : (s : LinkSettings) (events : List Event) → IsLink s → All HasBytes (offers events) → RisesBetween 0 (held s events) (free_after s (offers events) + s.delay)
+held-rises s events link some = (whole-from s [] events link some (record { rises = omega arith; whole = refl })).rises

@@ -1,0 +1,6 @@
+mod Steps
+mod Offering
+mod Sends
+mod Order
+mod Frames
+mod Paced

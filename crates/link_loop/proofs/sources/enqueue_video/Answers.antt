@@ -1,0 +1,15 @@
+use Rattle.std.proofs.Common.{subst}
+use Rattle.std.proofs.lemmas.Result.{on_ok_weaker}
+use Rattle.link_loop.specs.Kept.{IsAt}
+use Rattle.link_loop.proofs.Frames.{video-is}
+use Rattle.link_loop.proofs.sources.enqueue_video.Goals as goal
+
+pub returns-clause-at : goal.returns-clause-at
+returns-clause-at c =
+    on_ok_weaker c.ask.result
+    (λ asked s m h.
+    subst (IsAt c.ask.new.self s)
+    (video-is c.args.t c.moment-at.result c.from-count.result c.from.result c.args.size c.in_ok-wire.wire c.args.looper.now s m h c.moment-at.ensures c.in_ok-wire.ensures
+    c.from.ensures c.from-count.ensures c.requires.sound.video)
+    (asked s m h))
+    c.ask.ensures.at

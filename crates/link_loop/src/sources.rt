@@ -11,7 +11,7 @@ use crate::looper::Looper;
 use crate::{MOST_MILLIS, OPENER, SOURCES};
 use call_trace::{AUDIO_BYTES, frame, is_frame_due, made_packet, opening};
 use gcc_units::{Class, Moment, NoMemory};
-use send_core::Call;
+use send_core::{BoxedChange, Call};
 use std::alloc::Global;
 
 /// The moment of a millisecond.
@@ -31,7 +31,7 @@ pub fn open(looper: &mut Looper, alloc: Global, t: u32) -> Result<(), NoMemory>
     if t != 0 {
         return Ok(());
     }
-    let change = opening(alloc)?;
+    let change = BoxedChange::new(alloc, opening(alloc)?)?;
     let at = moment(t);
     looper.ask(alloc, OPENER, Call::Configure { at, change })
 }

@@ -111,10 +111,10 @@ takes-sent h p moment more s grows few late =
 
 -- ---- what it asks of the media level
 
-pub may-lower : (h : List Entry) (p x : Parts) (moment : ℕ) → StandsFor p h → length h < MOST_ENTRIES → x ≡ record p { pacer = advanced p.pacer moment }
+pub may-lower : (h : List Entry) (p x : Parts) (moment : ℕ) → StandsFor p h → MayGrow h → x ≡ record p { pacer = advanced p.pacer moment }
     → MayLower MOST_SENDS x.pacer.media
-may-lower h p x moment s short moves =
-    let sent_few : length (sent h) ≤ MOST_SENDS * length h = s.laws.few in
+may-lower h p x moment s grows moves =
+    let sent_few : length (sent h) + MOST_SENDS ≤ MOST_SENT = grows.few_sent in
     let low : IsLowered (length (sent h)) p.pacer.media = subst (IsLowered (length (sent h))) (sym s.media.least) s.laws.lowered in
     record {
       sends = length (sent h);

@@ -4,3 +4,7 @@ mod Sends
 mod Order
 mod Frames
 mod Paced
+mod Quiet
+mod Closed
+mod Once
+mod Ends

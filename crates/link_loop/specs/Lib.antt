@@ -1,2 +1,3 @@
 pub mod Looping
 pub mod Kept
+pub mod ClosedLoop

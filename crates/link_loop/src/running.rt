@@ -8,6 +8,7 @@ ghost use Rattle.link_path.specs.Link.{offers, held, delivered, dropped};
 ghost use Rattle.link_path.specs.KeptLink.{IsLink};
 ghost use Rattle.link_loop.specs.Looping.{Looping, millisecond, looping};
 ghost use Rattle.link_loop.specs.Kept.{IsAt, IsReady, IsSound};
+ghost use Rattle.link_loop.specs.ClosedLoop.{IsClosedLoop};
 
 use crate::MOST_MILLIS;
 use crate::looper::Looper;
@@ -54,21 +55,10 @@ fn millisecond(looper: &mut Looper, alloc: Global, t: u32) -> Result<(), NoMemor
     pace(looper, alloc, t)
 }
 
-/// Runs a sender in a closed loop over a link with these settings for so many milliseconds.
-///
-/// In each millisecond these calls are made, in this order: at first a change of the settings; every 50 ms the
-/// reports on what has arrived; every 20 ms an audio packet; thirty times a second a video frame at the target
-/// rate; every 5 ms a pace, whose packets are offered to the link. A call that would find the journal full is
-/// not made, and the run ends before it.
-///
-/// The settings are in the ranges of a link, and there are 1 to `MOST_MILLIS` milliseconds. `NoMemory` tells
-/// that memory ran out, and nothing else.
-pub fn run_loop(alloc: Global, settings: LinkSettings, millis: u32) -> Result<LoopEnd, NoMemory>
+/// Runs all milliseconds, and ends the loop.
+fn run(alloc: Global, settings: LinkSettings, millis: u32) -> Result<LoopEnd, NoMemory>
     requires settings { IsLink settings }
-    requires some { 1 ≤ millis }
     requires most { millis ≤ MOST_MILLIS }
-
-    // It ends as the loop does after so many milliseconds.
     ensures sender { IfOk result (λ e. e.sender ≡ (looping settings millis).history) }
     ensures delivered { IfOk result (λ e. e.delivered ≡ bare (delivered settings (looping settings millis).events)) }
     ensures dropped { IfOk result (λ e. e.dropped ≡ bare (dropped settings (offers (looping settings millis).events))) }
@@ -90,4 +80,33 @@ pub fn run_loop(alloc: Global, settings: LinkSettings, millis: u32) -> Result<Lo
         inside,
         reports: looper.reports,
     })
+}
+
+/// Runs a sender in a closed loop over a link with these settings for so many milliseconds.
+///
+/// In each millisecond these calls are made, in this order: at first a change of the settings; every 50 ms the
+/// reports on what has arrived; every 20 ms an audio packet; thirty times a second a video frame at the target
+/// rate; every 5 ms a pace, whose packets are offered to the link. A call that would find the journal full is
+/// not made, and the run ends before it.
+///
+/// The settings are in the ranges of a link, and there are 1 to `MOST_MILLIS` milliseconds. `NoMemory` tells
+/// that memory ran out, and nothing else.
+pub fn run_loop(alloc: Global, settings: LinkSettings, millis: u32) -> Result<LoopEnd, NoMemory>
+    requires settings { IsLink settings }
+    requires some { 1 ≤ millis }
+    requires most { millis ≤ MOST_MILLIS }
+
+    // It ends as the loop does after so many milliseconds.
+    ensures sender { IfOk result (λ e. e.sender ≡ (looping settings millis).history) }
+    ensures delivered { IfOk result (λ e. e.delivered ≡ bare (delivered settings (looping settings millis).events)) }
+    ensures dropped { IfOk result (λ e. e.dropped ≡ bare (dropped settings (offers (looping settings millis).events))) }
+    ensures inside { IfOk result (λ e. e.inside ≡ bare (held settings (looping settings millis).events)) }
+    ensures reports { IfOk result (λ e. map view e.reports.items ≡ (looping settings millis).reports) }
+
+    // Told by its calls: the history is legal, its reports are the spellings of these, and each packet that was
+    // sent is delivered, dropped or inside, as the link has it, each once.
+    ensures closed { IfOk result (λ e. IsClosedLoop settings e.sender e.delivered.items e.inside.items e.dropped.items (map view e.reports.items)) }
+{
+    let end = run(alloc, settings, millis)?;
+    Ok(end)
 }

@@ -1,6 +1,6 @@
 use Rattle.link_loop.specs.Looping.{looping}
 use Rattle.link_loop.specs.Kept.{IsAt, IsSound}
-use Rattle.link_loop.proofs.running.run_loop.Given as goal
+use Rattle.link_loop.proofs.running.run.Given as goal
 
 abbrev pub invariant-loop-t : goal.invariant-loop-t
 invariant-loop-t l = record {

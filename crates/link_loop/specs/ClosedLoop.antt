@@ -1,0 +1,64 @@
+-- What the end of a closed loop is, told by the history of its calls.
+use Rattle.std.specs.Prelude.{◌≡◌, ℕ, ◌+◌, Bool, nat_lt, ◌==◌, if◌then◌else◌, List, [], ◌∷◌, ◌++◌, length, map, count_by}
+use Rattle.std.specs.List.{flat_map}
+use Rattle.twcc_report.specs.Spelling.{Feedback}
+use Rattle.twcc_report.specs.Canonical.{canonical}
+use Rattle.send_core.specs.declared.call.Call.{Call}
+use Rattle.send_core.specs.declared.call.Call.TheVariants as call
+use Rattle.send_core.specs.declared.call.Reply.{Reply}
+use Rattle.send_core.specs.declared.call.Reply.TheVariants as given
+use Rattle.send_core.specs.declared.call.Entry.{Entry}
+use Rattle.send_core.specs.History.{sent}
+use Rattle.send_core.specs.Reply.{IsLegal}
+use Rattle.link_path.specs.declared.link.LinkSettings.{LinkSettings}
+use Rattle.link_path.specs.declared.link.Arrival.{Arrival}
+use Rattle.link_path.specs.Link.{Offer, arrivals, dropped}
+use Rattle.link_loop.specs.Looping.{offer_of}
+
+-- ---- what a history offers and reports
+
+abbrev pub offers_in : Reply → List Offer
+offers_in (given.Paced moment records) = map (offer_of moment) records.items
+offers_in (given.Accepted moment index) = []
+offers_in (given.Credited moment judged signal m acked rates shares) = []
+offers_in (given.Configured moment rates shares) = []
+offers_in (given.Refused moment cause) = []
+
+-- all that was sent, each packet at the moment of its pace
+abbrev pub offers_of : List Entry → List Offer
+offers_of history = flat_map (λ (e : Entry). offers_in e.reply) history
+
+abbrev pub report_in : Call → List (List ℕ)
+report_in (call.Report at bytes) = bytes.items ∷ []
+report_in (call.Enqueue at class wire) = []
+report_in (call.Pace at) = []
+report_in (call.Configure at change) = []
+
+-- the bytes of all reports
+abbrev pub reports_in : List Entry → List (List ℕ)
+reports_in history = flat_map (λ (e : Entry). report_in e.call) history
+
+-- ---- how often a number stands in a list
+
+abbrev pub count_of : ℕ → List ℕ → ℕ
+count_of k numbers = count_by (λ n. n == k) numbers
+
+abbrev pub number_of : Arrival → ℕ
+number_of a = a.number
+
+abbrev pub numbers : List Arrival → List ℕ
+numbers xs = map number_of xs
+
+-- ---- the end
+
+pub record IsClosedLoop (s : LinkSettings) (history : List Entry) (delivered inside : List Arrival) (lost : List ℕ) (reports : List Feedback) : Type 0 where
+  -- each reply is the one that the calls before it determine
+  pub legal : IsLegal history
+  -- the reports of the history are the canonical spellings of these, one each and in order
+  pub spelled : reports_in history ≡ map canonical reports
+  -- the packets that were dropped are those that the link drops of all that was sent
+  pub dropped_are : lost ≡ dropped s (offers_of history)
+  -- what was delivered and what is inside are, one behind the other, all packets that the link does not drop, each with its arrival
+  pub arrivals_are : delivered ++ inside ≡ arrivals s (offers_of history)
+  -- each number that was sent is that of one packet: delivered, dropped or inside
+  pub once : (k : ℕ) → count_of k (numbers delivered) + count_of k lost + count_of k (numbers inside) ≡ (if nat_lt k (length (sent history)) then 1 else 0)

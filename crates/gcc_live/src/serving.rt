@@ -6,7 +6,7 @@ use call_trace::{Action, Line, LineList, ReadTrace, make_trace, read_trace};
 use gcc_units::{MOST_ACTORS, MOST_CHECK_BYTES, MOST_LINES, NoMemory};
 use live_sender::{LiveFault, LiveSender};
 use pacer::Sent;
-use reply_text::{Seen, push_glance, push_line};
+use reply_text::{Seen, SeenList, push_glance, push_line};
 use send_core::{Call, Reply};
 use std::alloc::Global;
 use std::fmt::Write;
@@ -37,62 +37,71 @@ fn serve(alloc: Global, sender: &mut LiveSender, call: Call) -> Result<Reply, St
     }
 }
 
-/// The history that is spelled so far: the lines of the entries, those of the glances, how many
-/// calls were served, and how often each actor looked.
+/// The history that is spelled so far: the lines of the entries, how many calls were served, and the
+/// glances.
 #[derive(Drop)]
 struct Told {
-    entries: String,
-    glances: String,
+    text: String,
     calls: u32,
-    looks: [u64; MOST_ACTORS as usize],
+    glances: SeenList,
 }
 
 impl Told {
     fn new(alloc: Global) -> Result<Told, NoMemory> {
         Ok(Told {
-            entries: String::from_str(alloc, "gcc-history 1\n")?,
-            glances: String::new(alloc),
+            text: String::from_str(alloc, "gcc-history 1\n")?,
             calls: 0,
-            looks: [0; MOST_ACTORS as usize],
+            glances: SeenList::new(alloc),
         })
     }
 
     // Spells a reply.
     fn reply(&mut self, actor: u32, reply: &Reply) -> Result<(), NoMemory> {
         self.calls = self.calls.saturating_add(1);
-        push_line(&mut self.entries, actor, reply)
+        push_line(&mut self.text, actor, reply)
     }
 
-    // Spells a glance.
+    // Keeps a glance, whose line stands behind those of all calls.
     fn look(&mut self, actor: u32, sender: &LiveSender) -> Result<(), NoMemory> {
-        let Some(looks) = self.looks.get_mut(actor as usize) else {
-            return Ok(());
-        };
-        let number = *looks;
-        *looks = number.saturating_add(1);
         let seen = Seen {
             actor,
             calls: self.calls,
             target: sender.target(),
         };
-        push_glance(&mut self.glances, number, &seen)
+        match self.glances.push(seen) {
+            Ok(()) => Ok(()),
+            Err((fault, _seen)) => Err(fault),
+        }
     }
 
-    // The whole text.
+    // The whole text: the glances stand in the order of their actors.
     fn finish(self, sender: &LiveSender) -> Result<String, NoMemory> {
         let Told {
-            entries,
-            glances,
+            text,
             calls,
-            ..
+            glances,
         } = self;
-        let mut text = entries;
-        text.push_str(glances.as_str())?;
+        let mut text = text;
+        for actor in 0..MOST_ACTORS {
+            push_glances(&mut text, actor, glances.as_slice())?;
+        }
         let sent = sender.counters().sent;
         let target = sender.target();
         write!(text, "end {calls} {sent} {target}\n")?;
         Ok(text)
     }
+}
+
+// Appends the lines of an actor's glances.
+fn push_glances(text: &mut String, actor: u32, glances: &[Seen]) -> Result<(), NoMemory> {
+    let mut number: u64 = 0;
+    for seen in glances {
+        if seen.actor == actor {
+            push_glance(text, number, seen)?;
+            number = number.saturating_add(1);
+        }
+    }
+    Ok(())
 }
 
 // A line of action: its call, or its glance.

@@ -15,20 +15,25 @@ use Rattle.link_loop.specs.Kept.{IsInOrder}
 use Rattle.link_loop.specs.ClosedLoop.{offers_of, count_of, numbers, IsClosedLoop}
 use Rattle.link_loop.proofs.Order.{order-looping}
 use Rattle.link_loop.proofs.Closed.{IsTold, told-looping}
+use Rattle.link_loop.proofs.Split.{IsFront, front-looping}
 use Rattle.link_loop.proofs.Once.{numbers-append, offer_number, split, same-numbers, each-once}
 
-pub closed : (s : LinkSettings) (n : ℕ) → IsLink s → n ≤ MOST_MILLIS
-    → IsClosedLoop s (looping s n).history (delivered s (looping s n).events) (held s (looping s n).events) (dropped s (offers (looping s n).events)) (looping s n).reports
-closed s n link few =
+pub closed : (s : LinkSettings) (n : ℕ) → IsLink s → 1 ≤ n → n ≤ MOST_MILLIS
+    → IsClosedLoop s n (looping s n).history (delivered s (looping s n).events) (held s (looping s n).events) (dropped s (offers (looping s n).events)) (looping s n).reports
+closed s n link some few =
     let m : Looping = looping s n in
     let order : IsInOrder s m = order-looping s n link in
     let told : IsTold n m = told-looping s n few in
     let all : delivered s m.events ++ held s m.events ≡ arrivals s (offers m.events) = whole s m.events link order.bytes in
+    let front : IsFront n (delivered s m.events) (arrivals s (offers_of m.history)) = front-looping s n (arrivals s (offers_of m.history)) link (all ∙ ap (arrivals s) told.offered) in
     record {
       legal = order.legal;
       spelled = told.spelled;
       dropped_are = ap (dropped s) told.offered;
       arrivals_are = all ∙ ap (arrivals s) told.offered;
+      last = front.last;
+      last_is = omega (arith, front.early, some);
+      delivered_are = front.is;
       once = λ k.
           let parts = numbers-append k (delivered s m.events) (held s m.events) in
           let whole_ = ap (λ (xs : List Arrival). count_of k (numbers xs)) all in
@@ -39,7 +44,7 @@ closed s n link few =
           sums ∙ as_sent ∙ each-once k (sent m.history) (all-numbered m.history order.legal);
     }
 
-pub closed-by : (s : LinkSettings) (n : ℕ) (history : List Entry) (out inside : List Arrival) (lost : List ℕ) (reports : List Feedback) → IsLink s → n ≤ MOST_MILLIS
+pub closed-by : (s : LinkSettings) (n : ℕ) (history : List Entry) (out inside : List Arrival) (lost : List ℕ) (reports : List Feedback) → IsLink s → 1 ≤ n → n ≤ MOST_MILLIS
     → history ≡ (looping s n).history → out ≡ delivered s (looping s n).events → inside ≡ held s (looping s n).events → lost ≡ dropped s (offers (looping s n).events)
-    → reports ≡ (looping s n).reports → IsClosedLoop s history out inside lost reports
-closed-by s n history out inside lost reports link few a b c d e = rw (a, b, c, d, e) (closed s n link few)
+    → reports ≡ (looping s n).reports → IsClosedLoop s n history out inside lost reports
+closed-by s n history out inside lost reports link some few a b c d e = rw (a, b, c, d, e) (closed s n link some few)

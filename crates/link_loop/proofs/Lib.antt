@@ -7,4 +7,5 @@ mod Paced
 mod Quiet
 mod Closed
 mod Once
+mod Split
 mod Ends

@@ -1,5 +1,5 @@
 -- What the end of a closed loop is, told by the history of its calls.
-use Rattle.std.specs.Prelude.{◌≡◌, ℕ, ◌+◌, Bool, nat_lt, ◌==◌, if◌then◌else◌, List, [], ◌∷◌, ◌++◌, length, map, count_by}
+use Rattle.std.specs.Prelude.{◌≡◌, ℕ, ◌+◌, ◌<◌, Bool, nat_lt, ◌==◌, if◌then◌else◌, List, [], ◌∷◌, ◌++◌, length, map, filter, count_by}
 use Rattle.std.specs.List.{flat_map}
 use Rattle.twcc_report.specs.Spelling.{Feedback}
 use Rattle.twcc_report.specs.Canonical.{canonical}
@@ -10,9 +10,10 @@ use Rattle.send_core.specs.declared.call.Reply.TheVariants as given
 use Rattle.send_core.specs.declared.call.Entry.{Entry}
 use Rattle.send_core.specs.History.{sent}
 use Rattle.send_core.specs.Reply.{IsLegal}
+use Rattle.call_trace.specs.Making.{moment}
 use Rattle.link_path.specs.declared.link.LinkSettings.{LinkSettings}
 use Rattle.link_path.specs.declared.link.Arrival.{Arrival}
-use Rattle.link_path.specs.Link.{Offer, arrivals, dropped}
+use Rattle.link_path.specs.Link.{Offer, arrivals, dropped, has_arrived}
 use Rattle.link_loop.specs.Looping.{offer_of}
 
 -- ---- what a history offers and reports
@@ -51,7 +52,7 @@ numbers xs = map number_of xs
 
 -- ---- the end
 
-pub record IsClosedLoop (s : LinkSettings) (history : List Entry) (delivered inside : List Arrival) (lost : List ℕ) (reports : List Feedback) : Type 0 where
+pub record IsClosedLoop (s : LinkSettings) (millis : ℕ) (history : List Entry) (delivered inside : List Arrival) (lost : List ℕ) (reports : List Feedback) : Type 0 where
   -- each reply is the one that the calls before it determine
   pub legal : IsLegal history
   -- the reports of the history are the canonical spellings of these, one each and in order
@@ -60,5 +61,9 @@ pub record IsClosedLoop (s : LinkSettings) (history : List Entry) (delivered ins
   pub dropped_are : lost ≡ dropped s (offers_of history)
   -- what was delivered and what is inside are, one behind the other, all packets that the link does not drop, each with its arrival
   pub arrivals_are : delivered ++ inside ≡ arrivals s (offers_of history)
+  -- what was delivered is the front of them: those that arrive by the last millisecond in which the receiver was given what had arrived
+  pub last : ℕ
+  pub last_is : last < millis
+  pub delivered_are : delivered ≡ filter (has_arrived (moment last)) (arrivals s (offers_of history))
   -- each number that was sent is that of one packet: delivered, dropped or inside
   pub once : (k : ℕ) → count_of k (numbers delivered) + count_of k lost + count_of k (numbers inside) ≡ (if nat_lt k (length (sent history)) then 1 else 0)

@@ -105,7 +105,7 @@ pub fn run_loop(alloc: Global, settings: LinkSettings, millis: u32) -> Result<Lo
 
     // Told by its calls: the history is legal, its reports are the spellings of these, and each packet that was
     // sent is delivered, dropped or inside, as the link has it, each once.
-    ensures closed { IfOk result (λ e. IsClosedLoop settings e.sender e.delivered.items e.inside.items e.dropped.items (map view e.reports.items)) }
+    ensures closed { IfOk result (λ e. IsClosedLoop settings millis e.sender e.delivered.items e.inside.items e.dropped.items (map view e.reports.items)) }
 {
     let end = run(alloc, settings, millis)?;
     Ok(end)

@@ -6,3 +6,4 @@ mod Runs
 mod Built
 pub mod Heard
 mod Writable
+mod OneWay

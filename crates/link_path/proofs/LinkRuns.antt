@@ -18,7 +18,7 @@ zero-times bytes zero rate h l = absurd (omega arith)
 zero-times bytes (suc b) rate h l = omega arith
 
 -- a packet with a byte takes time
-takes-time : (s : LinkSettings) (o : Offer) → IsLink s → HasBytes o → 1 ≤ line_time s o
+pub takes-time : (s : LinkSettings) (o : Offer) → IsLink s → HasBytes o → 1 ≤ line_time s o
 takes-time s o link some =
     zero-times (BYTE * o.size) (div_ceil (BYTE * o.size) s.rate) s.rate (div_ceil_times (BYTE * o.size) s.rate (omega (arith, link.least_rate))).0 (omega arith)
 

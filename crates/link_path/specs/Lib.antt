@@ -2,5 +2,6 @@ pub mod Link
 pub mod KeptLink
 pub mod LinkLaws
 pub mod Division
+pub mod OneDivision
 pub mod Building
 pub mod Receiver

@@ -10,6 +10,7 @@ ghost use Rattle.link_path.specs.Link.{Offer, Event, offers, fate, free_after, i
 ghost use Rattle.link_path.specs.KeptLink.{IsLink, HasBytes};
 ghost use Rattle.link_path.specs.LinkLaws.{bytes_through, times_through};
 ghost use Rattle.link_path.specs.Division.{Run, Told, numbers_in, report_of, runs_of};
+ghost use Rattle.link_path.specs.OneDivision.{IsTheOne};
 
 /// Between the arrivals of two packets the link had time for all that arrive behind the first one, up to the
 /// second: for each one's own time on the line, and for all their bits at the link's rate.
@@ -51,4 +52,9 @@ pub fn none_lost_from_the_count()
 pub fn reports_tell_of_each_number_once()
     ensures runs { (numbers : List (Option ℕ)) → numbers_in (runs_of numbers) ≡ numbers }
     ensures statuses { (told : Told) (before : List Run) (run : Run) → length (report_of told before run).statuses ≡ length run }
+{}
+
+/// Numbers are divided into reports in one way: a number goes on in the report before it wherever it can.
+pub fn the_one_division()
+    ensures { (numbers : List (Option ℕ)) → IsTheOne numbers }
 {}

@@ -16,7 +16,7 @@ mod receiver;
 pub use building::ReportList;
 pub use laws::{
     dropped_where_full, no_faster_than_its_rate, none_early, none_lost_from_the_count,
-    reports_tell_of_each_number_once,
+    reports_tell_of_each_number_once, the_one_division,
 };
 pub use link::{Arrival, ArrivalList, Fate, Link, LinkSettings, NumberList};
 pub use receiver::Receiver;

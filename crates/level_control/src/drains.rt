@@ -68,9 +68,7 @@ pub fn asks_cut(drain: Option<Drain>, shown: Shown) -> bool
 {
     match drain {
         None => shown.level < shown.above || shown.lossy,
-        Some(drain) => {
-            drain.until <= shown.now && drain.deepest + shown.level < shown.above
-        }
+        Some(drain) => { drain.until <= shown.now && drain.deepest + shown.level < shown.above }
     }
 }
 

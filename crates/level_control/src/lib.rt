@@ -29,8 +29,8 @@ mod state;
 
 use probing::probed;
 use report::{after_report, set_to, started};
-pub use state::{Delay, Probed, Report};
 use state::State;
+pub use state::{Delay, Probed, Report};
 
 /// The longest round trip that a report hands in, in microseconds (as in delay control).
 pub const GREATEST_ROUND_TRIP: u64 = 10_000_000;
@@ -140,3 +140,6 @@ fn signal_of(cut: bool, drains: bool) -> Signal
         Signal::Normal
     }
 }
+
+#[cfg(test)]
+mod tests;

@@ -160,13 +160,7 @@ fn tolerated_after(losses: Losses, share: u64) -> u64
     ensures bound { result ≤ ALL_MILLE }
 {
     match losses.tried {
-        Some(tried) => {
-            if tried < HALVES * share {
-                share
-            } else {
-                0
-            }
-        }
+        Some(tried) => { if tried < HALVES * share { share } else { 0 } }
         None => {
             if losses.tolerated + TRIED_MILLE < share {
                 losses.tolerated

@@ -61,7 +61,11 @@ pub fn probed(state: State, results: &[Probed], waits: bool, now: Moment, bounds
     let cluster = planned(state, wanted(state, taken.next, now), waits, bounds);
     Asked {
         state: State {
-            probed: if cluster.is_some() { Some(now) } else { state.probed },
+            probed: if cluster.is_some() {
+                Some(now)
+            } else {
+                state.probed
+            },
             ..state
         },
         cluster,

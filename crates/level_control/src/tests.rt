@@ -1,6 +1,9 @@
 //! Two runs of 150 reports; the expected answers are those of tests/level_table/table.py.
 
-ghost use Rattle.std.specs.Prelude.{◌≤◌, length};
+ghost use Rattle.std.specs.Prelude.{◌≤◌, ◌+◌, ℕ, length};
+ghost use Rattle.std.specs.Option.{ForSome};
+ghost use Rattle.gcc_units.specs.Rates.{IsRate, IsBounds};
+ghost use Rattle.level_control.specs.Rule.{IsReport, Gathers, TakesReport};
 ghost use Rattle.level_control.specs.Delays.{IsDelay};
 
 use super::*;

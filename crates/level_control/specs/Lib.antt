@@ -1,0 +1,7 @@
+pub mod Delays
+pub mod Drains
+pub mod Growth
+pub mod Losses
+pub mod Probing
+pub mod Rule
+pub mod Steps

@@ -2,7 +2,9 @@
 //! of it.
 #![tactic(auto)]
 
+mod beside;
 mod checking;
+mod comparing;
 mod laws;
 mod making;
 mod options;

@@ -1,5 +1,5 @@
 -- The filter and the trendline beside each other: what one more sample changes.
-use Rattle.std.proofs.Common.{◌≡◌, ℕ, ℤ, pos, neg_ℤ, ◌+◌, ◌*◌, ◌<◌, ◌≤◌, ◌≤ℤ◌, ◌+ℤ◌, ◌*ℤ◌, min, to_z, of_z, w64, unwrap_or, Bool, true, false, cond, Option, None, Some, IfSome, List, [], ◌∷◌, ◌++◌, length, length-append, fold, get_or, unsigned_abs, refl, sym, ◌∙◌, ap, subst, arith}
+use Rattle.std.proofs.Common.{◌≡◌, ℕ, ℤ, pos, neg_ℤ, ◌+◌, ◌*◌, ◌<◌, ◌≤◌, ◌≤ℤ◌, ◌*ℤ◌, min, to_z, of_z, w64, unwrap_or, Bool, true, false, cond, Option, None, Some, IfSome, List, [], ◌∷◌, ◌++◌, length, length-append, fold, get_or, refl, sym, ◌∙◌, ap, subst, arith}
 use Rattle.std.specs.Prelude.{nat_lt}
 use Rattle.std.specs.Ordering.{int_eq}
 use Rattle.std.specs.Int.{int_min, int_max, int_div_euclid}
@@ -7,7 +7,7 @@ use Rattle.std.proofs.lemmas.Int.{ints, int_max_is, int_min_is}
 use Rattle.std.proofs.lemmas.List.{get_or_at}
 use Rattle.std.proofs.lemmas.List.Sums.{fold-append, sum_by-append}
 use Rattle.gcc_units.specs.Walk.{each_by, each_by-push}
-use Rattle.gcc_units.specs.declared.limits.TheConstants.{GREATEST_DELAY, GREATEST_MOMENT, MOST_PACKETS}
+use Rattle.gcc_units.specs.declared.limits.TheConstants.{GREATEST_MOMENT, MOST_PACKETS}
 use Rattle.gcc_units.specs.declared.shared_types.Sample.{Sample}
 use Rattle.gcc_units.specs.declared.shared_types.Signal.{Signal}
 use Rattle.gcc_units.specs.declared.shared_types.Signal.TheVariants.{Normal}

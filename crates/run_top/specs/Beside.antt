@@ -1,5 +1,5 @@
 -- What the filter and the trendline say after each sample, each with a detector of its own.
-use Rattle.std.specs.Prelude.{◌≡◌, ℤ, ◌≤◌, List, [], ◌∷◌, ◌++◌, fold}
+use Rattle.std.specs.Prelude.{◌≤◌, List, [], ◌∷◌, ◌++◌, fold}
 use Rattle.gcc_units.specs.declared.limits.TheConstants.{GREATEST_MOMENT}
 use Rattle.gcc_units.specs.declared.shared_types.Sample.{Sample}
 use Rattle.gcc_units.specs.declared.shared_types.Signal.{Signal}

@@ -15,6 +15,6 @@ mod text;
 
 pub use check::{Verdict, check_history};
 pub use laws::{legal_texts_have_one_history, texts_differ_at_one_place};
-pub use lines::{push_glance, push_line};
+pub use lines::{push_glance, push_line, push_signal};
 pub use seen::{Seen, SeenList};
 pub use text::write_history;

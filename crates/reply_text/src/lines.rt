@@ -69,7 +69,8 @@ fn push_sents(text: &mut String, records: &[Sent]) -> Result<(), NoMemory>
     Ok(())
 }
 
-fn push_signal(text: &mut String, signal: Signal) -> Result<(), NoMemory>
+/// Appends the word of a signal: `normal`, `over` or `under`. `NoMemory` tells that memory ran out.
+pub fn push_signal(text: &mut String, signal: Signal) -> Result<(), NoMemory>
     ensures { OnOk result (string_bytes text.new ≡ string_bytes text.old ++ signal_text signal) }
 {
     match signal {

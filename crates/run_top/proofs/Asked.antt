@@ -192,11 +192,14 @@ asks (word ∷ words) c e =
         | inl a ↦ alone_asks command.Race (codes "race") word words c (titled word (codes "race") a.0) a.1 refl
         | inr d ↦ elim (cond_some (is_text word (codes "check")) (alone command.Check words) _ c d.1) [
           | inl a ↦ alone_asks command.Check (codes "check") word words c (titled word (codes "check") a.0) a.1 refl
-          | inr f ↦ elim (cond_some (is_text word (codes "make")) (make_at words) _ c f.1) [
-            | inl a ↦ make_is word words c (titled word (codes "make") a.0) a.1
-            | inr g ↦ elim (cond_some (is_text word (codes "demo")) (demo_at words) None c g.1) [
-              | inl a ↦ demo_is word words c (titled word (codes "demo") a.0) a.1
-              | inr h ↦ absurd (let no : None ≡ Some c = h.1 in cc)
+          | inr f ↦ elim (cond_some (is_text word (codes "compare")) (alone command.Compare words) _ c f.1) [
+            | inl a ↦ alone_asks command.Compare (codes "compare") word words c (titled word (codes "compare") a.0) a.1 refl
+            | inr k ↦ elim (cond_some (is_text word (codes "make")) (make_at words) _ c k.1) [
+              | inl a ↦ make_is word words c (titled word (codes "make") a.0) a.1
+              | inr g ↦ elim (cond_some (is_text word (codes "demo")) (demo_at words) None c g.1) [
+                | inl a ↦ demo_is word words c (titled word (codes "demo") a.0) a.1
+                | inr h ↦ absurd (let no : None ≡ Some c = h.1 in cc)
+              ]
             ]
           ]
         ]
@@ -357,6 +360,9 @@ reads words command.Race is =
 reads words command.Check is =
     let at = are_titled words (codes "check") [] is in
     ap command_of at.2 ∙ ap (alone command.Check) (no_words at.1 at.3)
+reads words command.Compare is =
+    let at = are_titled words (codes "compare") [] is in
+    ap command_of at.2 ∙ ap (alone command.Compare) (no_words at.1 at.3)
 reads words (command.Make seed calls actors) is =
     let at = are_titled words (codes "make") is.0 is.1 in
     ap command_of at.2

@@ -1,4 +1,6 @@
 pub mod Streams
+pub mod SideBySide
+pub mod OneMore
 pub mod Serving
 pub mod Growing
 pub mod Working

@@ -17,6 +17,7 @@ use Rattle.run_top.specs.declared.words.Command.TheVariants as command
 use Rattle.run_top.specs.Check.{IsVerdictOn, GivesVerdict, verdict_text, ended_by}
 use Rattle.run_top.specs.Race.{GivesLegalText}
 use Rattle.run_top.specs.Replay.{input, GivesText}
+use Rattle.run_top.specs.Compared.{IsComparison}
 use Rattle.run_top.specs.Outcome.{front_input, Writes, Wrote, WroteInPart}
 
 -- bytes that were read to the end are those that the source told
@@ -30,6 +31,14 @@ replay_writes bytes text (Some told) left all few gives =
     let short : nat_lt MOST_TRACE_BYTES (length bytes) ≡ false = le-ltb MOST_TRACE_BYTES (length bytes) few in
     let traced : input bytes ≡ Ok gives.0 = ap (λ b. cond b (Err (fault 0 TOO_LONG)) (trace_at MOST_LINES bytes)) short ∙ gives.1 in
     subst (λ bs. Writes command.Replay bs status.Done text.items) all.0 (refl, gives.0, traced, gives.2, ap (λ (l : Listed ℕ). l.items) gives.3)
+
+pub compare_writes : (bytes text : List ℕ) (told left : Option (List ℕ)) → AreAll bytes told left → length bytes ≤ MOST_TRACE_BYTES
+    → IsComparison bytes text (trace_at MOST_LINES bytes) → IfSome told (λ all. Writes command.Compare all status.Done text)
+compare_writes bytes text None left all few gives = tt
+compare_writes bytes text (Some told) left all few gives =
+    let short : nat_lt MOST_TRACE_BYTES (length bytes) ≡ false = le-ltb MOST_TRACE_BYTES (length bytes) few in
+    let traced : input bytes ≡ Ok gives.0 = ap (λ b. cond b (Err (fault 0 TOO_LONG)) (trace_at MOST_LINES bytes)) short ∙ gives.1 in
+    subst (λ bs. Writes command.Compare bs status.Done text) all.0 (refl, gives.0, traced, gives.2, gives.3)
 
 pub race_writes : (bytes : List ℕ) (text : Listed ℕ) (told left : Option (List ℕ)) → AreAll bytes told left → length bytes ≤ MOST_TRACE_BYTES
     → GivesLegalText bytes (Ok text) (trace_at MOST_LINES bytes) → IfSome told (λ all. Writes command.Race all status.Done text.items)

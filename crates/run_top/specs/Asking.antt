@@ -47,6 +47,7 @@ abbrev pub Asks : List (List ℕ) → Command → Type 0
 Asks words command.Replay = words ≡ codes "replay" ∷ []
 Asks words command.Race = words ≡ codes "race" ∷ []
 Asks words command.Check = words ≡ codes "check" ∷ []
+Asks words command.Compare = words ≡ codes "compare" ∷ []
 Asks words (command.Make seed calls actors) =
     (rest : List (List ℕ)) × (words ≡ codes "make" ∷ rest)
     × HaveOptions rest (given name.Seed seed ∷ given name.Calls calls ∷ given name.Actors actors ∷ [])

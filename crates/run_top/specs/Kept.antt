@@ -8,5 +8,6 @@ abbrev pub KeepsSource : {S : Type 0} → Command → S → S → Type 0
 KeepsSource command.Replay before now = Unit {0}
 KeepsSource command.Race before now = Unit {0}
 KeepsSource command.Check before now = Unit {0}
+KeepsSource command.Compare before now = Unit {0}
 KeepsSource (command.Make seed calls actors) before now = now ≡ before
 KeepsSource (command.Demo seed calls) before now = now ≡ before

@@ -1,4 +1,6 @@
 pub mod Words
+pub mod Beside
+pub mod Compared
 pub mod Asking
 pub mod Ending
 pub mod Reading

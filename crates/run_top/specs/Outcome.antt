@@ -18,6 +18,7 @@ use Rattle.run_top.specs.declared.words.Command.{Command}
 use Rattle.run_top.specs.declared.words.Command.TheVariants as command
 use Rattle.run_top.specs.Check.{IsVerdictOn, verdict_text, ended_by}
 use Rattle.run_top.specs.Replay.{input, replayed}
+use Rattle.run_top.specs.Compared.{comparison}
 use Rattle.run_top.specs.Summary.{summary}
 
 -- ---- what is read
@@ -31,6 +32,7 @@ abbrev pub IfTold : Command → Option (List ℕ) → (List ℕ → Type 0) → 
 IfTold command.Replay left P = IfSome left P
 IfTold command.Race left P = IfSome left P
 IfTold command.Check left P = IfSome left P
+IfTold command.Compare left P = IfSome left P
 IfTold (command.Make seed calls actors) left P = P []
 IfTold (command.Demo seed calls) left P = P []
 
@@ -39,6 +41,7 @@ abbrev pub IsReadUp : Command → Option (List ℕ) → Option (List ℕ) → Ty
 IsReadUp command.Replay before now = IfSome before (λ bytes. now ≡ Some [])
 IsReadUp command.Race before now = IfSome before (λ bytes. now ≡ Some [])
 IsReadUp command.Check before now = IfSome before (λ bytes. now ≡ Some [])
+IsReadUp command.Compare before now = IfSome before (λ bytes. now ≡ Some [])
 IsReadUp (command.Make seed calls actors) before now = now ≡ before
 IsReadUp (command.Demo seed calls) before now = now ≡ before
 
@@ -56,6 +59,9 @@ Writes command.Race bytes ended text =
 Writes command.Check bytes ended text =
     (trace : Plain) × (count : ℕ) × (verdict : Verdict) × (front_input bytes ≡ Ok (trace, count)) × IsTrace (take count bytes) trace
     × IsVerdictOn trace (drop count bytes) verdict × (ended ≡ ended_by verdict) × (text ≡ verdict_text verdict)
+-- the filter and the trendline beside each other, on the samples of the credits of the trace's calls in the order of its lines
+Writes command.Compare bytes ended text =
+    (ended ≡ status.Done) × (trace : Plain) × (input bytes ≡ Ok trace) × IsTrace bytes trace × (text ≡ comparison (ordered trace.lines))
 -- the made trace
 Writes (command.Make seed calls actors) bytes ended text = (ended ≡ status.Done) × (text ≡ trace_text (made seed calls actors))
 -- the summary of the made trace of one actor, replayed
@@ -86,6 +92,7 @@ abbrev pub MayDiffer : Command → Type 0
 MayDiffer command.Check = Unit {0}
 MayDiffer command.Replay = ⊥
 MayDiffer command.Race = ⊥
+MayDiffer command.Compare = ⊥
 MayDiffer (command.Make seed calls actors) = ⊥
 MayDiffer (command.Demo seed calls) = ⊥
 
@@ -104,6 +111,7 @@ abbrev pub IsFaultOf : Command → List ℕ → TraceFault → Type 0
 IsFaultOf command.Replay bytes f = input bytes ≡ Err f
 IsFaultOf command.Race bytes f = input bytes ≡ Err f
 IsFaultOf command.Check bytes f = front_input bytes ≡ Err f
+IsFaultOf command.Compare bytes f = input bytes ≡ Err f
 IsFaultOf (command.Make seed calls actors) bytes f = ⊥
 IsFaultOf (command.Demo seed calls) bytes f = ⊥
 

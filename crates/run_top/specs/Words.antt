@@ -135,6 +135,7 @@ command_of (word ∷ words) =
     if is_text word (codes "replay") then alone command.Replay words
     else if is_text word (codes "race") then alone command.Race words
     else if is_text word (codes "check") then alone command.Check words
+    else if is_text word (codes "compare") then alone command.Compare words
     else if is_text word (codes "make") then make_at words
     else if is_text word (codes "demo") then demo_at words
     else None
@@ -148,6 +149,7 @@ abbrev pub IsWithin : Command → Type 0
 IsWithin command.Replay = Unit {0}
 IsWithin command.Race = Unit {0}
 IsWithin command.Check = Unit {0}
+IsWithin command.Compare = Unit {0}
 IsWithin (command.Make seed calls actors) = IsFromTo 1 MOST_LINES calls × IsFromTo 1 MOST_ACTORS actors
 IsWithin (command.Demo seed calls) = IsFromTo 1 MOST_LINES calls
 
@@ -156,6 +158,7 @@ abbrev pub unless_race : Command → Option Command
 unless_race command.Race = None
 unless_race command.Replay = Some command.Replay
 unless_race command.Check = Some command.Check
+unless_race command.Compare = Some command.Compare
 unless_race (command.Make seed calls actors) = Some (command.Make seed calls actors)
 unless_race (command.Demo seed calls) = Some (command.Demo seed calls)
 

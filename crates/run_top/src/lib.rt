@@ -5,7 +5,9 @@
 //! each status.
 #![tactic(auto)]
 
+mod beside;
 mod checking;
+mod comparing;
 mod laws;
 mod making;
 mod options;

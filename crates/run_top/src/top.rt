@@ -9,6 +9,7 @@ ghost use Rattle.run_top.specs.Kept.{KeepsSource};
 ghost use Rattle.run_top.specs.Outcome.{IfTold, IsReadUp, IsEnded, IsSilent, IsAnswered, NamesFault, Wrote, WroteInPart};
 
 use crate::checking::run_check;
+use crate::comparing::run_compare;
 use crate::making::run_make;
 use crate::racing::run_race;
 use crate::replay::run_replay;
@@ -24,7 +25,8 @@ use std::thread::Threads;
 ///
 /// `replay` reads a trace to the end of the source and writes the printed history of its calls in
 /// the order of its lines, with its glances. `check` reads a trace and a printed history behind it,
-/// and writes the verdict on the history: `legal` or `differs ENTRY`. `make` with `--seed`,
+/// and writes the verdict on the history: `legal` or `differs ENTRY`. `compare` reads a trace and
+/// writes what the arrival filter and the trendline say of each sample of its calls. `make` with `--seed`,
 /// `--calls` and `--actors` reads nothing and writes a made trace; `demo` with `--seed` and
 /// `--calls` writes a summary of such a trace of one actor, replayed. All other words are `Usage`,
 /// `race` too.
@@ -60,6 +62,7 @@ pub fn run_plain<S: Source, K: Sink>(
     match read_words(words) {
         Some(Command::Replay) => run_replay(alloc, source, sink),
         Some(Command::Check) => run_check(alloc, source, sink),
+        Some(Command::Compare) => run_compare(alloc, source, sink),
         Some(
             Command::Make {
                 seed,

@@ -18,6 +18,8 @@ pub enum Command {
     Race,
     /// `check`
     Check,
+    /// `compare`
+    Compare,
     /// `make` with its three options
     Make { seed: u64, calls: u32, actors: u32 },
     /// `demo` with its two options
@@ -90,6 +92,8 @@ pub fn read_words(words: &WordList) -> Option<Command>
                 alone(Command::Race, rest)
             } else if is_word(word, b"check") {
                 alone(Command::Check, rest)
+            } else if is_word(word, b"compare") {
+                alone(Command::Compare, rest)
             } else if is_word(word, b"make") {
                 make(rest)
             } else if is_word(word, b"demo") {

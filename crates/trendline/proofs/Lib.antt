@@ -1,5 +1,5 @@
 mod Lists
-mod Numbers
+pub mod Numbers
 mod Gaps
 mod Windows
 mod Few

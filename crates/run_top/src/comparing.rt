@@ -1,0 +1,203 @@
+//! Comparing the filter with the trendline over the credits of a trace.
+
+ghost use Rattle.std.specs.Prelude.{◌≡◌, ◌≢◌, ℕ, ◌≤◌, ◌++◌, [], ◌∷◌, List, length, Ok, IfOk, IfErr, OnOk, IfSome};
+ghost use Rattle.std.specs.String.{string_bytes};
+ghost use Rattle.gcc_units.specs.declared.shared_types.Credit.{Credit as CreditIs};
+ghost use Rattle.packet_groups.specs.Groups.{samples};
+ghost use Rattle.call_trace.specs.Ordered.{ordered};
+ghost use Rattle.call_trace.specs.Plain.{plain, Fits};
+ghost use Rattle.call_trace.specs.Grammar.{IsTrace};
+ghost use Rattle.call_trace.specs.Reading.{trace_at, FailsTrace};
+ghost use Rattle.run_io.specs.Faults.{Rose};
+ghost use Rattle.send_laws.specs.Credits.{credits};
+ghost use Rattle.send_laws.specs.InRange.{all_credits};
+ghost use Rattle.run_top.specs.declared.words.Command.TheVariants as command;
+ghost use Rattle.run_top.specs.Compared.{compared_line, compared_text, comparison, IsSoFar, TakesCredits, AreInRange, IsComparison};
+ghost use Rattle.run_top.specs.Outcome.{IsReadUp, IsEnded, IsSilent, IsAnswered, NamesFault, Wrote, WroteInPart};
+
+use crate::beside::{Beside, Compared};
+use crate::reading::{ReadStop, read_all};
+use crate::replay::serve_lines;
+use crate::status::Status;
+use crate::writing::write_all;
+use call_trace::{ReadTrace, TOO_LONG, Trace, read_trace};
+use gcc_units::{Credit, MOST_LINES, MOST_TRACE_BYTES, NoMemory};
+use packet_groups::{Groups, samples_stay_few};
+use reply_text::push_signal;
+use run_io::{Sink, Source};
+use send_core::{Journal, Reply};
+use send_laws::{credits_are_in_range, entries_have_bytes};
+use std::alloc::Global;
+use trendline::gaps_stay_within;
+
+/// The comparison so far: the groups and the parts that were given all credits up to here, and the lines.
+#[derive(Drop)]
+pub struct Comparing {
+    pub groups: Groups,
+    pub beside: Beside,
+    pub text: String,
+}
+
+/// Appends the line of a sample, of which so many stand before it.
+fn push_compared(text: &mut String, k: u64, compared: &Compared) -> Result<(), NoMemory>
+    ensures { OnOk result (string_bytes text.new ≡ string_bytes text.old ++ compared_line k compared.now) }
+{
+    let mean = compared.mean;
+    let value = compared.value;
+    write!(text, "{k} filter ")?;
+    push_signal(text, compared.filter)?;
+    write!(text, " {mean} trend ")?;
+    push_signal(text, compared.trend)?;
+    Ok(write!(text, " {value}\n")?)
+}
+
+impl Comparing {
+    /// Before any credit.
+    fn new(alloc: Global) -> Result<Self, NoMemory>
+        ensures { IfOk result (λ c. IsSoFar c []) }
+    {
+        Ok(Comparing {
+            groups: Groups::new(),
+            beside: Beside::new(alloc)?,
+            text: String::new(alloc),
+        })
+    }
+
+    /// Takes a credit, and appends the line of the sample that it gives.
+    fn take(&mut self, credit: &Credit) -> Result<(), NoMemory>
+        requires { TakesCredits self.old (credit.now ∷ []) }
+        ensures { OnOk result ((credits : List CreditIs) → IsSoFar self.old credits → IsSoFar self.new (credits ++ credit.now ∷ [])) }
+    {
+        gaps_stay_within();
+        samples_stay_few();
+        let k = self.beside.count();
+        let Some(sample) = self.groups.add(credit) else {
+            return Ok(());
+        };
+        let compared = self.beside.step(&sample);
+        push_compared(&mut self.text, k, &compared)
+    }
+
+    /// Takes all these credits.
+    fn take_all(&mut self, received: &[Credit]) -> Result<(), NoMemory>
+        requires { TakesCredits self.old received.now }
+        ensures { OnOk result ((credits : List CreditIs) → IsSoFar self.old credits → IsSoFar self.new (credits ++ received.now)) }
+    {
+        for credit in received {
+            self.take(credit)?;
+        }
+        Ok(())
+    }
+
+    /// Takes the credits that a reply lists.
+    fn take_reply(&mut self, reply: &Reply) -> Result<(), NoMemory>
+        requires { TakesCredits self.old (credits reply.now) }
+        ensures { OnOk result ((before : List CreditIs) → IsSoFar self.old before → IsSoFar self.new (before ++ credits reply.now)) }
+    {
+        match reply {
+            Reply::Credited { judged, .. } => self.take_all(judged.received.as_slice()),
+            Reply::Accepted { .. } => Ok(()),
+            Reply::Paced { .. } => Ok(()),
+            Reply::Configured { .. } => Ok(()),
+            Reply::Refused { .. } => Ok(()),
+        }
+    }
+
+    /// The text after the last credit.
+    fn finish(self) -> Result<String, NoMemory>
+        ensures { IfOk result (λ text. (credits : List CreditIs) → IsSoFar self credits → string_bytes text ≡ compared_text (samples credits)) }
+    {
+        let count = self.beside.count();
+        let mut text = self.text;
+        write!(text, "samples {count}\n")?;
+        Ok(text)
+    }
+}
+
+/// The comparison over all credits of a journal.
+fn compare_journal(alloc: Global, journal: &Journal) -> Result<String, NoMemory>
+    requires { AreInRange (all_credits journal.now.items) }
+    ensures { IfOk result (λ text. string_bytes text ≡ comparison journal.now.items) }
+{
+    let mut comparing = Comparing::new(alloc)?;
+    for k in 0..journal.len() {
+        let Some(entry) = journal.entry(k) else {
+            unreachable!()
+        };
+        comparing.take_reply(&entry.reply)?;
+    }
+    comparing.finish()
+}
+
+/// The comparison over a trace's calls in the order of its lines.
+fn compare_lines(alloc: Global, trace: Trace) -> Result<String, NoMemory>
+    requires { length trace.lines.items ≤ MOST_LINES }
+    ensures { IfOk result (λ text. string_bytes text ≡ comparison (ordered trace.lines.items)) }
+{
+    let (sender, _seen) = serve_lines(alloc, trace.lines)?;
+    let journal = sender.journal();
+    credits_are_in_range();
+    entries_have_bytes(journal);
+    compare_journal(alloc, journal)
+}
+
+/// The trace that the bytes spell. The bytes are let go of.
+fn read_bytes(alloc: Global, bytes: Vec<u8>) -> Result<Trace, ReadTrace>
+    requires { length bytes.items ≤ MOST_TRACE_BYTES }
+    ensures found { IfOk result (λ trace. IsTrace bytes.items (plain trace)) }
+    ensures read { IfOk result (λ trace. trace_at MOST_LINES bytes.items ≡ Ok (plain trace)) }
+    ensures fits { IfOk result (λ trace. Fits (plain trace)) }
+    ensures fault { IfErr result (λ e. FailsTrace e (trace_at MOST_LINES bytes.items)) }
+{
+    read_trace(alloc, bytes.as_slice())
+}
+
+/// The comparison over the trace that the bytes spell. They go before its calls are served.
+fn compare_trace(alloc: Global, bytes: Vec<u8>) -> Result<String, ReadTrace>
+    requires { length bytes.items ≤ MOST_TRACE_BYTES }
+    ensures found { IfOk result (λ text. IsComparison bytes.items (string_bytes text) (trace_at MOST_LINES bytes.items)) }
+    ensures fault { IfErr result (λ e. FailsTrace e (trace_at MOST_LINES bytes.items)) }
+{
+    let trace = read_bytes(alloc, bytes)?;
+    match compare_lines(alloc, trace) {
+        Ok(text) => Ok(text),
+        Err(NoMemory) => Err(ReadTrace::NoMemory),
+    }
+}
+
+/// Reads a trace to the end of the source, serves its calls in the order of its lines, and writes
+/// what the filter and the trendline say of each sample.
+pub fn run_compare<S: Source, K: Sink>(alloc: Global, source: &mut S, sink: &mut K) -> Status
+    ensures words { result ≢ Status.Usage }
+    ensures same { (entry : ℕ) → result ≢ Status.Differs entry }
+    ensures read { IsEnded result → IsReadUp command.Compare (S.left source.old) (S.left source.new) }
+    ensures done { IsEnded result → IfSome (S.left source.old) (λ bytes. Wrote command.Compare bytes result (K.written sink.old) (K.written sink.new)) }
+    ensures bad { IfSome (S.left source.old) (NamesFault command.Compare result) }
+    ensures read_fault { result ≡ Status.ReadFault → Rose (S.faults source.old) (S.faults source.new) }
+    ensures write_fault { result ≡ Status.WriteFault → Rose (K.faults sink.old) (K.faults sink.new) }
+    ensures part { result ≡ Status.WriteFault → IfSome (S.left source.old) (λ bytes. WroteInPart command.Compare bytes (K.written sink.old) (K.written sink.new)) }
+    ensures complete { (Rose (S.faults source.old) (S.faults source.new) → ⊥) → (Rose (K.faults sink.old) (K.faults sink.new) → ⊥) → IsAnswered result }
+    ensures silent { IsSilent result (K.written sink.old) (K.written sink.new) }
+{
+    let bytes = match read_all(alloc, source, MOST_TRACE_BYTES as usize) {
+        Ok(bytes) => bytes,
+        Err(ReadStop::Fault) => return Status::ReadFault,
+        Err(ReadStop::TooLong) => return Status::BadTrace {
+            line: 0,
+            reason: TOO_LONG,
+        },
+        Err(ReadStop::NoMemory) => return Status::NoMemory,
+    };
+    let text = match compare_trace(alloc, bytes) {
+        Ok(text) => text,
+        Err(ReadTrace::Fault(fault)) => return Status::BadTrace {
+            line: fault.line,
+            reason: fault.reason,
+        },
+        Err(ReadTrace::NoMemory) => return Status::NoMemory,
+    };
+    match write_all(sink, text.as_bytes()) {
+        Ok(()) => Status::Done,
+        Err(_) => Status::WriteFault,
+    }
+}

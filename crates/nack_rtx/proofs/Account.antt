@@ -1,21 +1,18 @@
 -- The account, one packet or one number more.
-use Rattle.std.proofs.Common.{◌≡◌, ◌≢◌, ℕ, zero, suc, ◌+◌, ◌-◌, ◌*◌, ◌%◌, ◌<◌, ◌≤◌, ◌==◌, inl, inr, Bool, true, false, cond, nat_lt, nat_le, List, [], ◌∷◌, ◌++◌, length, take, drop, get_or, set, fold, sum, count_by, Option, Some, None, refl, sym, ap, subst, ◌∙◌, arith, append_assoc, append-nil, length-append, length-drop, length-set, get_or-drop}
-use Rattle.std.specs.Prelude.{slice_get, slice_index_or, slice_set, IfSome}
-use Rattle.std.specs.List.{flat_map}
-use Rattle.std.proofs.lemmas.List.{drop-append-le, drop-set-add}
+use Rattle.std.proofs.Common.{◌≡◌, ℕ, zero, suc, ◌+◌, ◌-◌, ◌<◌, ◌≤◌, ◌==◌, inl, inr, Bool, true, false, cond, List, [], ◌∷◌, ◌++◌, length, drop, get_or, Option, Some, None, refl, sym, ap, subst, ◌∙◌, arith, length-append, length-drop, get_or-drop}
+use Rattle.std.specs.Prelude.{slice_get, slice_index_or}
+use Rattle.std.proofs.lemmas.List.{drop-append-le}
 use Rattle.std.proofs.lemmas.Option.{slice_get-get_or}
-use Rattle.std.proofs.lemmas.List.Sums.{fold-append, sum_by-set, sum_by-append, sum_by-cons}
-use Rattle.std.proofs.lemmas.Bool.{cases_lt, cases_eq, lt-ltb, le-ltb, le-leb, lt-leb}
-use Rattle.gcc_units.specs.Walk.{each_by, each_by-push, flat_map-push}
+use Rattle.std.proofs.lemmas.Bool.{cases_lt, lt-ltb, le-ltb, le-leb, lt-leb}
 use Rattle.rtp_wire.specs.Place.{field16}
 use Rattle.circular_buffer.specs.Buffer.{keep_last}
 use Rattle.nack_rtx.specs.declared.TheConstants.{MOST_STORED}
 use Rattle.nack_rtx.specs.declared.resender.RtxSettings.{RtxSettings}
 use Rattle.nack_rtx.specs.declared.resender.Verdict.{Verdict}
 use Rattle.nack_rtx.specs.declared.resender.Verdict.TheVariants.{Unknown, Spent, Again}
-use Rattle.nack_rtx.specs.Resending.{Event, kept, asked, Account, nothing, or_else, last_from, if_newest, stored, resend_of, verdict_on, verdict, after, left, verdicts, after_event, keeping, account, is_kept}
+use Rattle.nack_rtx.specs.Resending.{Account, or_else, last_from, if_newest, stored, verdict_on, verdict}
 use Rattle.nack_rtx.specs.Held.{Held}
-use Rattle.nack_rtx.specs.Keeping.{Keeps, StandsFor, with_counts, not_before, found}
+use Rattle.nack_rtx.specs.Keeping.{Keeps, not_before, found}
 
 -- ---- the newest of a list
 

@@ -1,5 +1,5 @@
 -- What becomes of a number, by what a resender holds.
-use Rattle.std.proofs.Common.{◌≡◌, ◌≢◌, ℕ, suc, ◌+◌, ◌-◌, ◌%◌, ◌<◌, ◌≤◌, ◌==◌, Bool, true, false, cond, List, [], ◌∷◌, ◌++◌, length, get_or, sum, Option, Some, None, refl, sym, ap, subst, ◌∙◌, arith, eq-eqb}
+use Rattle.std.proofs.Common.{◌≡◌, ◌≢◌, ℕ, ◌+◌, ◌-◌, ◌%◌, ◌<◌, ◌≤◌, cond, List, [], length, get_or, sum, Option, Some, None, sym, ap, subst, ◌∙◌, arith, eq-eqb}
 use Rattle.std.specs.Prelude.{slice_get}
 use Rattle.std.proofs.lemmas.Bool.{lt-ltb, le-ltb, ne_eqb}
 use Rattle.gcc_units.specs.Listed.{bare}
@@ -7,7 +7,6 @@ use Rattle.circular_buffer.specs.Buffer.{keep_last}
 use Rattle.nack_rtx.specs.declared.TheConstants.{MOST_STORED}
 use Rattle.nack_rtx.specs.declared.resender.RtxSettings.{RtxSettings}
 use Rattle.nack_rtx.specs.declared.resender.Resend.{Resend}
-use Rattle.nack_rtx.specs.declared.resender.Verdict.{Verdict}
 use Rattle.nack_rtx.specs.declared.resender.Verdict.TheVariants.{Unknown, Spent, Again}
 use Rattle.nack_rtx.specs.Packets.{resent_packet}
 use Rattle.nack_rtx.specs.Resending.{Account, stored, resend_of, verdict_on, verdict}

@@ -1,18 +1,16 @@
 -- What a resender holds, one packet or one NACK more.
-use Rattle.std.proofs.Common.{◌≡◌, ◌≢◌, ℕ, zero, suc, ◌+◌, ◌-◌, ◌*◌, ◌%◌, ◌<◌, ◌≤◌, ◌==◌, inl, inr, Bool, true, false, cond, List, [], ◌∷◌, ◌++◌, length, take, drop, get_or, set, fold, sum, count_by, Option, Some, None, refl, sym, ap, subst, ◌∙◌, arith, length-append, length-drop, length-set, eq-eqb}
-use Rattle.std.specs.Prelude.{slice_get, slice_index_or, slice_set}
-use Rattle.std.specs.List.{flat_map}
+use Rattle.std.proofs.Common.{◌≡◌, ℕ, ◌+◌, ◌-◌, ◌<◌, ◌≤◌, ◌==◌, inl, inr, true, false, cond, List, [], ◌∷◌, ◌++◌, length, drop, get_or, set, sum, Option, Some, None, refl, sym, ap, subst, ◌∙◌, arith, length-append, length-set, eq-eqb}
 use Rattle.std.proofs.lemmas.List.{drop-set-add, get_or-set_same, get_or-set_other}
-use Rattle.std.proofs.lemmas.List.Sums.{fold-append, sum_by-set, sum_by-append, sum_by-cons}
+use Rattle.std.proofs.lemmas.List.Sums.{fold-append, sum_by-set, sum_by-append}
 use Rattle.std.proofs.lemmas.Bool.{cases_eq, ne_eqb}
-use Rattle.gcc_units.specs.Walk.{each_by, each_by-push, flat_map-push}
+use Rattle.gcc_units.specs.Walk.{each_by-push}
 use Rattle.rtp_wire.specs.Place.{field16}
 use Rattle.circular_buffer.specs.Buffer.{keep_last}
 use Rattle.nack_rtx.specs.declared.TheConstants.{MOST_STORED}
 use Rattle.nack_rtx.specs.declared.resender.RtxSettings.{RtxSettings}
 use Rattle.nack_rtx.specs.declared.resender.Verdict.{Verdict}
 use Rattle.nack_rtx.specs.declared.resender.Verdict.TheVariants.{Unknown, Spent, Again}
-use Rattle.nack_rtx.specs.Resending.{Event, kept, asked, Account, nothing, last_from, stored, verdict, after, left, verdicts, after_event, keeping, account, is_kept}
+use Rattle.nack_rtx.specs.Resending.{Event, kept, Account, nothing, last_from, verdict, after, left, verdicts, after_event, keeping, account, is_kept}
 use Rattle.nack_rtx.specs.Answering.{counted, more_resends}
 use Rattle.nack_rtx.specs.Held.{Held}
 use Rattle.nack_rtx.specs.Keeping.{Keeps, StandsFor, with_counts}

@@ -1,19 +1,13 @@
 -- The laws of what is sent again.
-use Rattle.std.proofs.Common.{◌≡◌, ◌≢◌, ℕ, zero, suc, ◌+◌, ◌-◌, ◌*◌, ◌<◌, ◌≤◌, ◌==◌, ◌↔◌, inl, inr, Bool, true, false, cond, nat_le, List, [], ◌∷◌, ◌++◌, length, get_or, set, take, fold, sum, All, Option, Some, None, refl, sym, ap, subst, ◌∙◌, arith, length-set, length-append, eq-eqb}
-use Rattle.std.specs.List.{flat_map, AllByRecursion}
+use Rattle.std.proofs.Common.{◌≡◌, ◌≢◌, ℕ, zero, suc, ◌+◌, ◌-◌, ◌<◌, ◌≤◌, ◌==◌, ◌↔◌, inl, inr, cond, List, [], ◌∷◌, length, get_or, Option, Some, None, refl, sym, ap, subst, ◌∙◌, arith, eq-eqb}
 use Rattle.std.proofs.lemmas.Bool.{cases_lt, cases_eq, lt-ltb, le-ltb, le-leb, lt-leb, ne_eqb}
-use Rattle.std.proofs.lemmas.List.Sums.{sum_by-set, sum_by-append, sum_by-cons, fold-append}
-use Rattle.gcc_units.specs.Walk.{each_by, each_by-push, flat_map-push}
 use Rattle.rtp_wire.specs.Place.{field16}
 use Rattle.nack_rtx.specs.declared.TheConstants.{MOST_STORED}
 use Rattle.nack_rtx.specs.declared.resender.RtxSettings.{RtxSettings}
 use Rattle.nack_rtx.specs.declared.resender.Resend.{Resend}
-use Rattle.nack_rtx.specs.declared.resender.Verdict.{Verdict}
-use Rattle.nack_rtx.specs.declared.resender.Verdict.TheVariants.{Unknown, Spent, Again}
-use Rattle.nack_rtx.specs.Resending.{Event, kept, asked, Account, nothing, or_else, last_from, if_newest, stored, resend_of, verdict_on, verdict, after, left, verdicts, resend_in, keeping, is_kept, after_event, account}
+use Rattle.nack_rtx.specs.declared.resender.Verdict.TheVariants.{Again}
+use Rattle.nack_rtx.specs.Resending.{Account, or_else, last_from, if_newest, stored, resend_of, verdict_on, verdict}
 use Rattle.nack_rtx.specs.Yielding.{IsNewestWith, IsAgainAt, IsYielded}
-use Rattle.nack_rtx.proofs.Account.{Counts, verdict_counts}
-use Rattle.nack_rtx.proofs.Kept.{verdicts-push, left-push}
 
 -- ---- the newest with a number
 

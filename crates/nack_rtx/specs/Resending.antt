@@ -1,5 +1,5 @@
 -- What is sent again for NACKs.
-use Rattle.std.specs.Prelude.{ℕ, ◌+◌, ◌%◌, ◌<◌, ◌≤◌, Bool, true, false, nat_lt, nat_le, ◌==◌, ◌&&◌, if◌then◌else◌, List, [], ◌∷◌, ◌++◌, length, fold, sum, count_by, slice_index, slice_index_or, slice_set, Option, Some, None}
+use Rattle.std.specs.Prelude.{ℕ, ◌+◌, ◌%◌, Bool, true, false, nat_lt, nat_le, ◌==◌, ◌&&◌, if◌then◌else◌, List, [], ◌∷◌, ◌++◌, length, fold, sum, count_by, slice_index, slice_index_or, slice_set, Option, Some, None}
 use Rattle.std.specs.List.{flat_map}
 use Rattle.gcc_units.specs.Listed.{bare}
 use Rattle.gcc_units.specs.Walk.{each_by}

@@ -1,12 +1,14 @@
 //! Laws of the definitions that the contracts of this crate cite. The functions do nothing; their
 //! contracts are the laws.
 
-ghost use Rattle.std.specs.Prelude.{◌≡◌, ℕ, ◌+◌, ◌*◌, ◌<◌, ◌≤◌, ◌==◌, ◌↔◌, Some, sum, length, List, [], ◌∷◌, ◌++◌, All, count_by};
+ghost use Rattle.std.specs.Prelude.{◌≡◌, ℕ, ◌+◌, ◌*◌, ◌^◌, ◌<◌, ◌≤◌, ◌==◌, ◌↔◌, Some, sum, length, List, [], ◌∷◌, ◌++◌, All, count_by};
 ghost use Rattle.std.specs.List.{flat_map};
 ghost use Rattle.nack_rtx.specs.Naming.{has, first_at, first_of};
 ghost use Rattle.nack_rtx.specs.Spelling.{Asked, Spells};
 ghost use Rattle.nack_rtx.specs.Checks.{IsByChecks};
 ghost use Rattle.nack_rtx.specs.declared.resender.RtxSettings.{RtxSettings};
+ghost use Rattle.rtp_wire.specs.Place.{field32};
+ghost use Rattle.nack_rtx.specs.Packets.{resent_packet};
 ghost use Rattle.nack_rtx.specs.Resending.{Account, Event, account, left, verdicts, stored, resend_in};
 ghost use Rattle.nack_rtx.specs.Yielding.{IsAgainAt, IsYielded, IsNewestWith};
 
@@ -51,4 +53,10 @@ pub fn resends_are_few()
     ensures count { (s : RtxSettings) (media : ℕ) (a : Account) (seqs : List ℕ) → length a.resent ≡ length a.packets
         → sum (left s media a seqs).resent ≡ sum a.resent + length (flat_map resend_in (verdicts s media a seqs)) }
     ensures few { (s : RtxSettings) (events : List Event) → sum (account s events).resent ≤ s.repeats * length (account s events).packets }
+{}
+
+/// A packet that is sent again has the SSRC of retransmissions, so it is never one of the media.
+pub fn resent_packets_are_of_rtx()
+    ensures { (payload seq ssrc : ℕ) (packet : List ℕ) → 12 ≤ length packet → ssrc < 2 ^ 32
+        → field32 8 (resent_packet payload seq ssrc packet) ≡ ssrc }
 {}

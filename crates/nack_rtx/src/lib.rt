@@ -16,7 +16,7 @@ mod stored;
 pub use fault::{NackFault, ReadNack};
 pub use laws::{
     lost_are_the_named, none_beyond_its_repeats, one_nack, reading_is_by_checks, resends_are_few,
-    stored_are_the_newest, yields_what_it_names,
+    resent_packets_are_of_rtx, stored_are_the_newest, yields_what_it_names,
 };
 pub use nack::{Nack, SeqList};
 pub use reading::read_nack;

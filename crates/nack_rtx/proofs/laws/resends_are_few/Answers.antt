@@ -1,4 +1,4 @@
-use Rattle.std.proofs.Common.{subst, ap, ◌*◌, ◌≤◌, sum}
+use Rattle.std.proofs.Common.{subst, ◌*◌, ◌≤◌, sum}
 use Rattle.nack_rtx.specs.Resending.{account}
 use Rattle.nack_rtx.proofs.Repeats.{resends_count, sum_few, sound}
 use Rattle.nack_rtx.proofs.laws.resends_are_few.Goals as goal

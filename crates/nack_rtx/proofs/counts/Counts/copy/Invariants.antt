@@ -1,4 +1,4 @@
-use Rattle.std.proofs.Common.{◌≡◌, ◌≤◌, length, map}
+use Rattle.std.proofs.Common.{◌≡◌, map}
 use Rattle.circular_buffer.specs.Buffer.{buffer}
 use Rattle.nack_rtx.specs.declared.TheConstants.{MOST_STORED}
 use Rattle.nack_rtx.proofs.counts.Counts.copy.Given as goal

@@ -1,4 +1,4 @@
-use Rattle.std.proofs.Common.{◌≡◌, ℕ, List, ap, sym, ◌∙◌}
+use Rattle.std.proofs.Common.{ap}
 use Rattle.nack_rtx.specs.Held.{Held}
 use Rattle.nack_rtx.specs.Keeping.{with_counts}
 use Rattle.nack_rtx.specs.Resending.{account}

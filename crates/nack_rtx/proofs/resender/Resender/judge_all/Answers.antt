@@ -1,10 +1,8 @@
-use Rattle.std.proofs.Common.{◌≡◌, ℕ, ◌-◌, List, length, take, get_or, ap, sym, ◌∙◌, subst, arith}
+use Rattle.std.proofs.Common.{◌≡◌, ℕ, List, length, take, get_or, ap, ◌∙◌, subst, arith}
 use Rattle.std.proofs.Math.Seq.{take-length}
-use Rattle.nack_rtx.specs.declared.TheConstants.{MOST_STORED}
-use Rattle.nack_rtx.specs.Held.{Held}
-use Rattle.nack_rtx.specs.Resending.{Account, verdict, left}
+use Rattle.nack_rtx.specs.Resending.{verdict, left}
 use Rattle.nack_rtx.specs.Answering.{IsTold, Works}
-use Rattle.nack_rtx.proofs.Working.{begins, goes_on_at}
+use Rattle.nack_rtx.proofs.Working.{goes_on_at}
 use Rattle.nack_rtx.proofs.resender.Resender.judge_all.Goals as goal
 
 pub loop-seq-preserved : goal.loop-seq-preserved

@@ -1,5 +1,4 @@
-use Rattle.std.proofs.Common.{◌≡◌, ◌+◌, ◌-◌, ◌≤◌, take}
-use Rattle.nack_rtx.specs.declared.TheConstants.{MOST_STORED}
+use Rattle.std.proofs.Common.{◌+◌, ◌≤◌, take}
 use Rattle.nack_rtx.specs.Resending.{Account}
 use Rattle.nack_rtx.specs.Keeping.{Keeps}
 use Rattle.nack_rtx.specs.Answering.{Works}

@@ -1,8 +1,7 @@
-use Rattle.std.proofs.Common.{◌≡◌, ℕ, [], None, Some, List, Option, replicate, refl, ap, sym, subst, ◌∙◌, arith, get_or}
+use Rattle.std.proofs.Common.{◌≡◌, ℕ, None, Some, List, Option, replicate, refl, ap, sym, subst, ◌∙◌, get_or}
 use Rattle.std.proofs.lemmas.List.{get_or-replicate}
 use Rattle.circular_buffer.specs.Buffer.{Buffer}
 use Rattle.nack_rtx.specs.Keeping.{Keeps}
-use Rattle.nack_rtx.specs.Resending.{account, nothing}
 use Rattle.nack_rtx.proofs.Kept.{account-none}
 use Rattle.nack_rtx.proofs.resender.Resender.new.Goals as goal
 

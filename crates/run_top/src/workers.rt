@@ -1,17 +1,17 @@
 //! The actors of a race: each works its own lines, on a seat of its own.
 
-ghost use Rattle.std.specs.Prelude.{◌≡◌, ◌≢◌, ◌+◌, ◌^◌, ◌<◌, ◌≤◌, [], ◌∷◌, ◌++◌, List, length, All, IfOk};
+ghost use Rattle.std.specs.Prelude.{◌≡◌, ◌≢◌, ◌+◌, ◌^◌, ◌<◌, ◌≤◌, [], ◌∷◌, ◌++◌, List, length, All};
 ghost use Rattle.std.specs.Thread.{IsSync};
 ghost use Rattle.call_trace.specs.declared.trace.Line.{Line as LineIs};
 ghost use Rattle.call_trace.specs.declared.trace.Action.TheVariants as act;
 ghost use Rattle.run_top.specs.OwnLines.{own_lines};
 ghost use Rattle.run_top.specs.Racing.{Worked, AreWorked, IsReady, key, keys};
 
-use call_trace::{Action, Line};
+use call_trace::{Action, Line, copy_call};
 use gcc_units::NoMemory;
 use reply_text::{Seen, SeenList};
 use run_io::Gate;
-use send_core::{ApplyFault, BoxedChange, Call, Change};
+use send_core::{ApplyFault, Call};
 use shared_sender::{SenderSeat, Shared};
 use std::alloc::Global;
 use std::sync::Wait;
@@ -49,47 +49,6 @@ fn stop_for(why: ApplyFault) -> Stop
     }
 }
 
-/// The same change once more.
-fn copied_change(alloc: Global, change: &Change) -> Result<Change, NoMemory>
-    ensures { IfOk result (λ c. c ≡ change.now) }
-{
-    Ok(Change {
-        streams: change.streams.copy(alloc)?,
-        removed: change.removed.copy(alloc)?,
-        start: change.start,
-        min: change.min,
-        max: change.max,
-        pacing_percent: change.pacing_percent,
-        window: change.window,
-        padding_rate: change.padding_rate,
-        paced_audio: change.paced_audio,
-        extension_id: change.extension_id,
-        probe: change.probe,
-    })
-}
-
-/// The same call once more.
-fn copied(alloc: Global, call: &Call) -> Result<Call, NoMemory>
-    ensures { IfOk result (λ c. c ≡ call.now) }
-{
-    match call {
-        Call::Enqueue { at, class, wire } => Ok(Call::Enqueue {
-            at: *at,
-            class: *class,
-            wire: wire.copy(alloc)?,
-        }),
-        Call::Pace { at } => Ok(Call::Pace { at: *at }),
-        Call::Report { at, bytes } => Ok(Call::Report {
-            at: *at,
-            bytes: bytes.copy(alloc)?,
-        }),
-        Call::Configure { at, change } => Ok(Call::Configure {
-            at: *at,
-            change: BoxedChange::new(alloc, copied_change(alloc, change.get())?)?,
-        }),
-    }
-}
-
 /// Makes a call. A worker whose call was not answered stops.
 fn ask<R: Wait>(rt: &R, alloc: Global, shared: &Shared, call: &Call, worker: &mut Worker)
     requires of { worker.old.seat.of ≡ shared.now.of }
@@ -98,7 +57,7 @@ fn ask<R: Wait>(rt: &R, alloc: Global, shared: &Shared, call: &Call, worker: &mu
     ensures actor { worker.new.actor ≡ worker.old.actor }
     ensures worked { (lines : List LineIs) → Worked lines worker.old → Worked (lines ++ record { actor = worker.old.seat.number; action = act.Ask call.now } ∷ []) worker.new }
 {
-    let Ok(call) = copied(alloc, call) else {
+    let Ok(call) = copy_call(alloc, call) else {
         worker.stop = Stop::NoMemory;
         return;
     };

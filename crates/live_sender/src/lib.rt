@@ -1,5 +1,6 @@
-//! A media sender for calls without end: the same replies as the sender with a journal, in memory
-//! that does not grow with the calls. The history of its calls stands in its contracts alone.
+//! A media sender for calls without end: the same replies as the sender with a journal, and no
+//! journal. The history of its calls stands in its contracts alone. What it keeps are the packets
+//! that wait, the last sent packets, and the probe clusters that were planned.
 #![tactic(auto)]
 
 mod live;

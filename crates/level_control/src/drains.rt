@@ -48,6 +48,8 @@ pub fn stepped(state: State, shown: Shown) -> State
     ensures losses { result.losses ≡ state.losses }
     ensures last { result.last ≡ state.last }
     ensures cut { asks_cut state.drain shown ≡ true → result.rate ≤ cut_from state.rate }
+    ensures cut_received { asks_cut state.drain shown ≡ true → ForSome shown.acked (λ received. result.rate ≤ cut_from received) }
+    ensures until { asks_cut state.drain shown ≡ true → ForSome result.drain (λ drain. drain.until ≡ shown.now + shown.rtt) }
     ensures cut_drains { asks_cut state.drain shown ≡ true → IsSome result.drain }
     ensures drains { IsSome state.drain → IsSome result.drain → result.rate ≤ state.rate }
 {
@@ -68,7 +70,8 @@ pub fn stepped(state: State, shown: Shown) -> State
 pub fn asks_cut(drain: Option<Drain>, shown: Shown) -> bool
     requires drain { ForSome drain IsDrain }
     requires shown { IsShown shown }
-    ensures { result ≡ asks_cut drain shown }
+    ensures value { result ≡ asks_cut drain shown }
+    ensures apart { result ≡ true → ForSome drain (λ drain. drain.until ≤ shown.now) }
 {
     match drain {
         None => shown.level < shown.above || shown.lossy,
@@ -102,6 +105,8 @@ fn cut(state: State, shown: Shown) -> State
     ensures losses { result.losses ≡ state.losses }
     ensures last { result.last ≡ state.last }
     ensures deep { result.rate ≤ cut_from state.rate }
+    ensures received { ForSome shown.acked (λ received. result.rate ≤ cut_from received) }
+    ensures until { ForSome result.drain (λ drain. drain.until ≡ shown.now + shown.rtt) }
     ensures drains { IsSome result.drain }
 {
     let most = shown.acked.unwrap_or(state.rate);
@@ -125,6 +130,7 @@ fn cut_rate(rate: Rate, most: Rate, above: u64) -> Rate
     requires rate { rate ≤ GREATEST_RATE }
     ensures value { result ≡ cut_rate rate most above }
     ensures deep { result ≤ cut_from rate }
+    ensures received { result ≤ cut_from most }
 {
     cut_percent(above) * rate.min(most) / ALL_PERCENT
 }
@@ -253,6 +259,8 @@ fn drained(state: State, drain: Drain, shown: Shown) -> State
     ensures losses { result.losses ≡ state.losses }
     ensures last { result.last ≡ state.last }
     ensures cut { asks_cut (Some drain) shown ≡ true → result.rate ≤ cut_from state.rate }
+    ensures cut_received { asks_cut (Some drain) shown ≡ true → ForSome shown.acked (λ received. result.rate ≤ cut_from received) }
+    ensures until { asks_cut (Some drain) shown ≡ true → ForSome result.drain (λ drain. drain.until ≡ shown.now + shown.rtt) }
     ensures cut_drains { asks_cut (Some drain) shown ≡ true → IsSome result.drain }
     ensures drains { IsSome result.drain → result.rate ≤ state.rate }
 {

@@ -102,6 +102,9 @@ impl LevelControl {
 
         // After a cut, in a drain, and of the cluster that is asked for.
         ensures cut { result.signal ≡ Over → result.rate ≤ max bounds.min (cut_from self.old.rate) }
+        ensures cut_received { result.signal ≡ Over → ForSome report.acked (λ received. result.rate ≤ max bounds.min (cut_from received)) }
+        ensures apart { result.signal ≡ Over → ForSome self.old.drain (λ drain. drain.until ≤ report.now) }
+        ensures until { result.signal ≡ Over → ForSome self.new.drain (λ drain. drain.until ≡ report.now + report.rtt) }
         ensures drains { IsSome self.old.drain → IsSome self.new.drain → result.rate ≤ max bounds.min self.old.rate }
         ensures cluster { ForSome result.cluster (λ rate. rate ≤ bounds.max) }
         ensures no_drain { IsSome result.cluster → IsNone self.new.drain }

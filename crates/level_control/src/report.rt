@@ -60,6 +60,9 @@ pub fn after_report(state: State, report: Report, bounds: Bounds) -> Measured
     ensures last { ForSome result.state.last (λ last. last ≤ report.now) }
     ensures gathers { (n : ℕ) → Gathers n state → Gathers (n + 1) result.state }
     ensures cut { result.cut ≡ true → result.state.rate ≤ max bounds.min (cut_from state.rate) }
+    ensures cut_received { result.cut ≡ true → ForSome report.acked (λ received. result.state.rate ≤ max bounds.min (cut_from received)) }
+    ensures apart { result.cut ≡ true → ForSome state.drain (λ drain. drain.until ≤ report.now) }
+    ensures until { result.cut ≡ true → ForSome result.state.drain (λ drain. drain.until ≡ report.now + report.rtt) }
     ensures cut_drains { result.cut ≡ true → IsSome result.state.drain }
     ensures drains { IsSome state.drain → IsSome result.state.drain → result.state.rate ≤ max bounds.min state.rate }
 {
@@ -87,6 +90,9 @@ fn with_delay(state: State, lossy: bool, report: Report) -> Measured
     ensures losses { result.state.losses ≡ state.losses }
     ensures last { ForSome result.state.last (λ last. last ≤ report.now) }
     ensures cut { result.cut ≡ true → result.state.rate ≤ cut_from state.rate }
+    ensures cut_received { result.cut ≡ true → ForSome report.acked (λ received. result.state.rate ≤ cut_from received) }
+    ensures apart { result.cut ≡ true → ForSome state.drain (λ drain. drain.until ≤ report.now) }
+    ensures until { result.cut ≡ true → ForSome result.state.drain (λ drain. drain.until ≡ report.now + report.rtt) }
     ensures cut_drains { result.cut ≡ true → IsSome result.state.drain }
     ensures drains { IsSome state.drain → IsSome result.state.drain → result.state.rate ≤ state.rate }
 {
@@ -110,6 +116,8 @@ fn with_shown(state: State, shown: Shown) -> State
     ensures losses { result.losses ≡ state.losses }
     ensures last { result.last ≡ Some shown.now }
     ensures cut { asks_cut state.drain shown ≡ true → result.rate ≤ cut_from state.rate }
+    ensures cut_received { asks_cut state.drain shown ≡ true → ForSome shown.acked (λ received. result.rate ≤ cut_from received) }
+    ensures until { asks_cut state.drain shown ≡ true → ForSome result.drain (λ drain. drain.until ≡ shown.now + shown.rtt) }
     ensures cut_drains { asks_cut state.drain shown ≡ true → IsSome result.drain }
     ensures drains { IsSome state.drain → IsSome result.drain → result.rate ≤ state.rate }
 {
@@ -129,6 +137,8 @@ fn shown(state: State, lossy: bool, delay: Delay, report: Report) -> Shown
     ensures value { result ≡ shown state lossy delay report }
     ensures shown { IsShown result }
     ensures now { result.now ≡ report.now }
+    ensures acked { result.acked ≡ report.acked }
+    ensures round_trip { result.rtt ≡ report.rtt }
 {
     let delays = delays_after(state.delays, delay, report.now);
     Shown {

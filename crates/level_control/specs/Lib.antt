@@ -5,3 +5,4 @@ pub mod Losses
 pub mod Probing
 pub mod Rule
 pub mod Steps
+pub mod Laws

@@ -1,9 +1,10 @@
 //! Cuts, and the drains behind them.
 
-ghost use Rattle.std.specs.Prelude.{◌≡◌, ◌≤◌, ◌<◌, ◌*◌, ◌+◌, ◌^◌};
+ghost use Rattle.std.specs.Prelude.{◌≡◌, ◌≤◌, ◌<◌, ◌*◌, ◌+◌, ◌^◌, Some, IsSome, IsNone, true};
 ghost use Rattle.std.specs.Option.{ForSome};
 ghost use Rattle.level_control.specs.Delays.{IsDelay, IsDelays};
 ghost use Rattle.level_control.specs.Drains.{cut_percent, cut_rate, cut_capacity, rate_before, begun, cut, asks_cut, with_low, deepened, fallen, followed, risen, wait, has_settled, left_most, ended, increased, drained, stepped, IsDrain, IsRest, IsShown};
+ghost use Rattle.level_control.specs.Laws.{cut_from};
 
 use crate::delays::{DRAINS_IN_A_ROW, above, greater, lesser};
 use crate::growth::{ALL_PERCENT, grown, is_far, limited};
@@ -46,6 +47,11 @@ pub fn stepped(state: State, shown: Shown) -> State
     ensures rest { IsRest result }
     ensures losses { result.losses ≡ state.losses }
     ensures last { result.last ≡ state.last }
+    ensures cut { asks_cut state.drain shown ≡ true → result.rate ≤ cut_from state.rate }
+    ensures cut_received { asks_cut state.drain shown ≡ true → ForSome shown.acked (λ received. result.rate ≤ cut_from received) }
+    ensures until { asks_cut state.drain shown ≡ true → ForSome result.drain (λ drain. drain.until ≡ shown.now + shown.rtt) }
+    ensures cut_drains { asks_cut state.drain shown ≡ true → IsSome result.drain }
+    ensures drains { IsSome state.drain → IsSome result.drain → result.rate ≤ state.rate }
 {
     match state.drain {
         None => {
@@ -64,7 +70,8 @@ pub fn stepped(state: State, shown: Shown) -> State
 pub fn asks_cut(drain: Option<Drain>, shown: Shown) -> bool
     requires drain { ForSome drain IsDrain }
     requires shown { IsShown shown }
-    ensures { result ≡ asks_cut drain shown }
+    ensures value { result ≡ asks_cut drain shown }
+    ensures apart { result ≡ true → ForSome drain (λ drain. drain.until ≤ shown.now) }
 {
     match drain {
         None => shown.level < shown.above || shown.lossy,
@@ -97,6 +104,10 @@ fn cut(state: State, shown: Shown) -> State
     ensures rest { IsRest result }
     ensures losses { result.losses ≡ state.losses }
     ensures last { result.last ≡ state.last }
+    ensures deep { result.rate ≤ cut_from state.rate }
+    ensures received { ForSome shown.acked (λ received. result.rate ≤ cut_from received) }
+    ensures until { ForSome result.drain (λ drain. drain.until ≡ shown.now + shown.rtt) }
+    ensures drains { IsSome result.drain }
 {
     let most = shown.acked.unwrap_or(state.rate);
     let before = rate_before(state);
@@ -117,7 +128,9 @@ fn cut_percent(above: u64) -> u64
 
 fn cut_rate(rate: Rate, most: Rate, above: u64) -> Rate
     requires rate { rate ≤ GREATEST_RATE }
-    ensures { result ≡ cut_rate rate most above }
+    ensures value { result ≡ cut_rate rate most above }
+    ensures deep { result ≤ cut_from rate }
+    ensures received { result ≤ cut_from most }
 {
     cut_percent(above) * rate.min(most) / ALL_PERCENT
 }
@@ -169,6 +182,7 @@ fn followed(drain: Drain, shown: Shown) -> Drain
     requires shown { IsShown shown }
     ensures value { result ≡ followed drain shown }
     ensures kept { IsDrain result }
+    ensures same_cut { asks_cut (Some result) shown ≡ asks_cut (Some drain) shown }
 {
     let low = with_low(drain, shown.delays.last);
     if shown.now < drain.until {
@@ -244,6 +258,11 @@ fn drained(state: State, drain: Drain, shown: Shown) -> State
     ensures rest { IsRest result }
     ensures losses { result.losses ≡ state.losses }
     ensures last { result.last ≡ state.last }
+    ensures cut { asks_cut (Some drain) shown ≡ true → result.rate ≤ cut_from state.rate }
+    ensures cut_received { asks_cut (Some drain) shown ≡ true → ForSome shown.acked (λ received. result.rate ≤ cut_from received) }
+    ensures until { asks_cut (Some drain) shown ≡ true → ForSome result.drain (λ drain. drain.until ≡ shown.now + shown.rtt) }
+    ensures cut_drains { asks_cut (Some drain) shown ≡ true → IsSome result.drain }
+    ensures drains { IsSome result.drain → result.rate ≤ state.rate }
 {
     let state = State {
         capacity: risen(state.capacity, shown.acked, drain.before),
@@ -287,6 +306,7 @@ fn ended(state: State, drain: Drain, shown: Shown) -> State
     ensures rest { IsRest result }
     ensures losses { result.losses ≡ state.losses }
     ensures last { result.last ≡ state.last }
+    ensures no_drain { IsNone result.drain }
 {
     let known = state.capacity.unwrap_or(0);
     let others = left_most(drain, shown);

@@ -9,11 +9,13 @@
 //! No crate uses it yet.
 #![tactic(auto)]
 
-ghost use Rattle.std.specs.Prelude.{◌≡◌, ◌≤◌, ◌+◌, ℕ, All};
+ghost use Rattle.std.specs.Prelude.{◌≡◌, ◌≤◌, ◌+◌, ℕ, All, IsSome, IsNone, max, true, false};
 ghost use Rattle.std.specs.Option.{ForSome};
 ghost use Rattle.gcc_units.specs.Rates.{IsRate, IsBounds, IsInBounds};
 ghost use Rattle.level_control.specs.Rule.{started, set_to, IsReport, Gathers, TakesReport};
 ghost use Rattle.level_control.specs.Probing.{IsProbed};
+ghost use Rattle.gcc_units.specs.declared.shared_types.Signal.TheVariants.{Over};
+ghost use Rattle.level_control.specs.Laws.{cut_from};
 ghost use Rattle.level_control.specs.Steps.{after, answer, signal_of};
 
 use gcc_units::{Bounds, Rate, Signal};
@@ -22,11 +24,13 @@ use std::marker::Model;
 mod delays;
 mod drains;
 mod growth;
+mod laws;
 mod losses;
 mod probing;
 mod report;
 mod state;
 
+pub use laws::{cuts_are_shown, cuts_lie_apart, levels_lie_in_range, rates_grow_slowly};
 use probing::probed;
 use report::{after_report, set_to, started};
 use state::State;
@@ -95,6 +99,16 @@ impl LevelControl {
         ensures within { IsInBounds bounds result.rate }
         ensures last { ForSome self.new.last (λ last. last ≤ report.now) }
         ensures gathers { (n : ℕ) → Gathers n self.old → Gathers (n + 1) self.new }
+
+        // After a cut, in a drain, and of the cluster that is asked for.
+        ensures cut { result.signal ≡ Over → result.rate ≤ max bounds.min (cut_from self.old.rate) }
+        ensures cut_received { result.signal ≡ Over → ForSome report.acked (λ received. result.rate ≤ max bounds.min (cut_from received)) }
+        ensures apart { result.signal ≡ Over → ForSome self.old.drain (λ drain. drain.until ≤ report.now) }
+        ensures until { result.signal ≡ Over → ForSome self.new.drain (λ drain. drain.until ≡ report.now + report.rtt) }
+        ensures drains { IsSome self.old.drain → IsSome self.new.drain → result.rate ≤ max bounds.min self.old.rate }
+        ensures cluster { ForSome result.cluster (λ rate. rate ≤ bounds.max) }
+        ensures no_drain { IsSome result.cluster → IsNone self.new.drain }
+        ensures one { IsSome result.cluster → waits ≡ false }
     {
         let measured = after_report(self.state, report, bounds);
         let asked = probed(measured.state, results, waits, report.now, bounds);
@@ -130,7 +144,8 @@ impl LevelControl {
 }
 
 fn signal_of(cut: bool, drains: bool) -> Signal
-    ensures { result ≡ signal_of cut drains }
+    ensures value { result ≡ signal_of cut drains }
+    ensures over { result ≡ Over → cut ≡ true }
 {
     if cut {
         Signal::Over

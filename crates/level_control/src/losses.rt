@@ -48,6 +48,7 @@ pub fn after_losses(state: State, report: Report) -> Heard
     ensures rate { result.state.rate ≤ state.rate }
     ensures rest { IsRest result.state }
     ensures last { result.state.last ≡ state.last }
+    ensures drain { result.state.drain ≡ state.drain }
     ensures few_received { result.state.losses.received ≤ state.losses.received + report.received }
     ensures few_missing { result.state.losses.missing ≤ state.losses.missing + report.missing }
 {
@@ -110,6 +111,7 @@ fn judged(state: State, report: Report) -> Heard
     ensures rate { result.state.rate ≤ state.rate }
     ensures rest { IsRest result.state }
     ensures last { result.state.last ≡ state.last }
+    ensures drain { result.state.drain ≡ state.drain }
     ensures no_received { result.state.losses.received ≡ 0 }
     ensures no_missing { result.state.losses.missing ≡ 0 }
 {

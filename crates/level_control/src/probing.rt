@@ -1,6 +1,6 @@
 //! What the results of probes change, and which cluster is asked for.
 
-ghost use Rattle.std.specs.Prelude.{◌≡◌, ◌≤◌, ◌<◌, ◌*◌, List, All, fold};
+ghost use Rattle.std.specs.Prelude.{◌≡◌, ◌≤◌, ◌<◌, ◌*◌, All, IsSome, IsNone, false};
 ghost use Rattle.std.specs.Option.{ForSome};
 ghost use Rattle.gcc_units.specs.Rates.{bounded, IsRate, IsBounds, IsInBounds};
 ghost use Rattle.level_control.specs.Rule.{IsKept};
@@ -52,6 +52,11 @@ pub fn probed(state: State, results: &[Probed], waits: bool, now: Moment, bounds
     ensures within { IsInBounds bounds result.state.rate }
     ensures losses { result.state.losses ≡ state.losses }
     ensures last { result.state.last ≡ state.last }
+    ensures drain { result.state.drain ≡ state.drain }
+    ensures stays { IsSome state.drain → result.state.rate ≡ state.rate }
+    ensures cluster { ForSome result.cluster (λ rate. rate ≤ bounds.max) }
+    ensures no_drain { IsSome result.cluster → IsNone state.drain }
+    ensures one { IsSome result.cluster → waits ≡ false }
 {
     let taken = results_of(state, results, bounds);
     let state = State {
@@ -79,6 +84,7 @@ fn results_of(state: State, results: &[Probed], bounds: Bounds) -> Taken
     requires results { All IsProbed results.now }
     requires bounds { IsBounds bounds }
     ensures value { result ≡ results_of state results.now bounds }
+    ensures stays { IsSome state.drain → result.rate ≡ state.rate }
     ensures within { IsInBounds bounds result.rate }
 {
     let mut taken = Taken {
@@ -138,7 +144,10 @@ fn pause(capacity: Option<Rate>) -> u64
 fn planned(state: State, next: Option<Rate>, waits: bool, bounds: Bounds) -> Option<Rate>
     requires kept { IsKept state }
     requires bounds { IsBounds bounds }
-    ensures { result ≡ planned state next waits bounds }
+    ensures value { result ≡ planned state next waits bounds }
+    ensures cluster { ForSome result (λ rate. rate ≤ bounds.max) }
+    ensures no_drain { IsSome result → IsNone state.drain }
+    ensures one { IsSome result → waits ≡ false }
 {
     let rate = next?.min(bounds.max);
     if state.drain.is_none() && !waits && ABOVE_PERCENT * state.rate < ALL_PERCENT * rate {

@@ -1,10 +1,11 @@
 //! What one report and a setting change.
 
-ghost use Rattle.std.specs.Prelude.{◌≡◌, ◌≤◌, ◌<◌, ◌+◌, ℕ, Some};
+ghost use Rattle.std.specs.Prelude.{◌≡◌, ◌≤◌, ◌<◌, ◌+◌, ℕ, Some, IsSome, max, true};
 ghost use Rattle.std.specs.Option.{ForSome};
 ghost use Rattle.gcc_units.specs.Rates.{bounded, IsRate, IsBounds, IsInBounds};
 ghost use Rattle.level_control.specs.Delays.{IsDelay, IsDelays};
-ghost use Rattle.level_control.specs.Drains.{IsShown, IsRest};
+ghost use Rattle.level_control.specs.Drains.{asks_cut, IsShown, IsRest};
+ghost use Rattle.level_control.specs.Laws.{cut_from};
 ghost use Rattle.level_control.specs.Rule.{started, shown, with_shown, with_delay, put_in, after_report, restarted, set_to, IsReport, IsKept, Gathers, TakesReport};
 
 use crate::delays::{above, delays_after, level};
@@ -58,6 +59,12 @@ pub fn after_report(state: State, report: Report, bounds: Bounds) -> Measured
     ensures within { IsInBounds bounds result.state.rate }
     ensures last { ForSome result.state.last (λ last. last ≤ report.now) }
     ensures gathers { (n : ℕ) → Gathers n state → Gathers (n + 1) result.state }
+    ensures cut { result.cut ≡ true → result.state.rate ≤ max bounds.min (cut_from state.rate) }
+    ensures cut_received { result.cut ≡ true → ForSome report.acked (λ received. result.state.rate ≤ max bounds.min (cut_from received)) }
+    ensures apart { result.cut ≡ true → ForSome state.drain (λ drain. drain.until ≤ report.now) }
+    ensures until { result.cut ≡ true → ForSome result.state.drain (λ drain. drain.until ≡ report.now + report.rtt) }
+    ensures cut_drains { result.cut ≡ true → IsSome result.state.drain }
+    ensures drains { IsSome state.drain → IsSome result.state.drain → result.state.rate ≤ max bounds.min state.rate }
 {
     let heard = after_losses(state, report);
     let next = with_delay(heard.state, heard.lossy, report);
@@ -82,6 +89,12 @@ fn with_delay(state: State, lossy: bool, report: Report) -> Measured
     ensures rest { IsRest result.state }
     ensures losses { result.state.losses ≡ state.losses }
     ensures last { ForSome result.state.last (λ last. last ≤ report.now) }
+    ensures cut { result.cut ≡ true → result.state.rate ≤ cut_from state.rate }
+    ensures cut_received { result.cut ≡ true → ForSome report.acked (λ received. result.state.rate ≤ cut_from received) }
+    ensures apart { result.cut ≡ true → ForSome state.drain (λ drain. drain.until ≤ report.now) }
+    ensures until { result.cut ≡ true → ForSome result.state.drain (λ drain. drain.until ≡ report.now + report.rtt) }
+    ensures cut_drains { result.cut ≡ true → IsSome result.state.drain }
+    ensures drains { IsSome state.drain → IsSome result.state.drain → result.state.rate ≤ state.rate }
 {
     let Some(delay) = report.delay else {
         return Measured { state, cut: false };
@@ -102,6 +115,11 @@ fn with_shown(state: State, shown: Shown) -> State
     ensures rest { IsRest result }
     ensures losses { result.losses ≡ state.losses }
     ensures last { result.last ≡ Some shown.now }
+    ensures cut { asks_cut state.drain shown ≡ true → result.rate ≤ cut_from state.rate }
+    ensures cut_received { asks_cut state.drain shown ≡ true → ForSome shown.acked (λ received. result.rate ≤ cut_from received) }
+    ensures until { asks_cut state.drain shown ≡ true → ForSome result.drain (λ drain. drain.until ≡ shown.now + shown.rtt) }
+    ensures cut_drains { asks_cut state.drain shown ≡ true → IsSome result.drain }
+    ensures drains { IsSome state.drain → IsSome result.drain → result.rate ≤ state.rate }
 {
     let state = State {
         delays: Some(shown.delays),
@@ -119,6 +137,8 @@ fn shown(state: State, lossy: bool, delay: Delay, report: Report) -> Shown
     ensures value { result ≡ shown state lossy delay report }
     ensures shown { IsShown result }
     ensures now { result.now ≡ report.now }
+    ensures acked { result.acked ≡ report.acked }
+    ensures round_trip { result.rtt ≡ report.rtt }
 {
     let delays = delays_after(state.delays, delay, report.now);
     Shown {
@@ -142,6 +162,8 @@ pub fn put_in(bounds: Bounds, state: State) -> State
     ensures within { IsInBounds bounds result.rate }
     ensures losses { result.losses ≡ state.losses }
     ensures last { result.last ≡ state.last }
+    ensures drain { result.drain ≡ state.drain }
+    ensures low { result.rate ≤ max bounds.min state.rate }
 {
     let rate = state.rate.clamp(bounds.min, bounds.max);
     State { rate, ..state }

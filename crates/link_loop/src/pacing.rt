@@ -28,8 +28,8 @@ fn push(numbers: &mut NumberList, number: u64) -> Result<(), NoMemory>
 /// Offers a packet to the link.
 fn offer(looper: &mut Looper, record: &Sent, now: Moment) -> Result<(), NoMemory>
     requires moment { now ≤ GREATEST_MOMENT }
-    requires sendable { IsSendable record.now }
-    ensures at { OnOk result ((s : LinkSettings) (m : Looping) → IsAt looper.old s m → IsAt looper.new s (with_offers now (record.now ∷ []) m)) }
+    requires sendable { IsSendable «record».now }
+    ensures at { OnOk result ((s : LinkSettings) (m : Looping) → IsAt looper.old s m → IsAt looper.new s (with_offers now («record».now ∷ []) m)) }
     ensures sound { OnOk result (IsSound looper.old → IsSound looper.new) }
 {
     match looper.link.offer(record.number, record.size, now)? {

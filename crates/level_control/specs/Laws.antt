@@ -1,8 +1,9 @@
 -- What holds of each report to the level control.
-use Rattle.std.specs.Prelude.{◌≡◌, ℕ, ◌<◌, ◌≤◌, ◌+◌, ◌*◌, ◌/◌, max, true, false, Option, Some, None}
+use Rattle.std.specs.Prelude.{◌≡◌, ℕ, ◌<◌, ◌≤◌, ◌+◌, ◌*◌, ◌/◌, max, Bool, true, false, Option, Some, None, unwrap_or}
 use Rattle.fixed_math.specs.Root.{root}
 use Rattle.level_control.specs.declared.state.Delays.{Delays}
 use Rattle.level_control.specs.declared.state.Drain.{Drain}
+use Rattle.level_control.specs.declared.state.Losses.{Losses}
 use Rattle.level_control.specs.declared.state.Shown.{Shown}
 use Rattle.level_control.specs.declared.state.State.{State}
 use Rattle.level_control.specs.declared.delays.TheConstants.{OWN_LEVEL, SHARED_LEVEL, CHANGES, CHANGE_PARTS}
@@ -10,7 +11,9 @@ use Rattle.level_control.specs.declared.growth.TheConstants.{ALL_PERCENT, GROWTH
 use Rattle.level_control.specs.declared.drains.TheConstants.{CUT_PERCENT}
 use Rattle.level_control.specs.Delays.{level}
 use Rattle.level_control.specs.Growth.{is_far}
-use Rattle.level_control.specs.Drains.{asks_cut, begun, cut, increased}
+use Rattle.level_control.specs.declared.losses.TheConstants.{TRIED_MILLE}
+use Rattle.level_control.specs.Losses.{tries}
+use Rattle.level_control.specs.Drains.{asks_cut, begun, ended, increased}
 
 -- the part of a rate that a cut leaves at most
 abbrev pub cut_from : ℕ → ℕ
@@ -48,3 +51,11 @@ pub record GrowsSlowly (s : State) (x : Shown) : Type 0 where
 
 abbrev pub AllGrowSlowly : Type 0
 AllGrowSlowly = (s : State) (x : Shown) → GrowsSlowly s x
+
+-- A loss share that asks for a cut is more than two points above the tolerated one.
+abbrev pub TriedSharesAreShown : Type 0
+TriedSharesAreShown = (w : Losses) (share : ℕ) (may_cut : Bool) → tries w share may_cut ≡ true → w.tolerated + TRIED_MILLE < share
+
+-- At its end a drain leaves at most the greater of the rate and what the path carried.
+abbrev pub DrainsEndLow : Type 0
+DrainsEndLow = (s : State) (d : Drain) (x : Shown) → (ended s d x).rate ≤ max s.rate (unwrap_or s.capacity 0)

@@ -30,7 +30,9 @@ mod probing;
 mod report;
 mod state;
 
-pub use laws::{cuts_are_shown, cuts_lie_apart, levels_lie_in_range, rates_grow_slowly};
+pub use laws::{
+    cuts_are_shown, cuts_lie_apart, drains_end_low, levels_lie_in_range, rates_grow_slowly,
+};
 use probing::probed;
 use report::{after_report, set_to, started};
 use state::State;

@@ -5,8 +5,6 @@ ghost use Rattle.std.specs.String.{string_bytes};
 ghost use Rattle.gcc_units.specs.declared.shared_types.Credit.{Credit as CreditIs};
 ghost use Rattle.packet_groups.specs.Groups.{samples};
 ghost use Rattle.call_trace.specs.Ordered.{ordered};
-ghost use Rattle.call_trace.specs.Plain.{plain, Fits};
-ghost use Rattle.call_trace.specs.Grammar.{IsTrace};
 ghost use Rattle.call_trace.specs.Reading.{trace_at, FailsTrace};
 ghost use Rattle.run_io.specs.Faults.{Rose};
 ghost use Rattle.send_laws.specs.Credits.{credits};
@@ -17,10 +15,10 @@ ghost use Rattle.run_top.specs.Outcome.{IsReadUp, IsEnded, IsSilent, IsAnswered,
 
 use crate::beside::{Beside, Compared};
 use crate::reading::{ReadStop, read_all};
-use crate::replay::serve_lines;
+use crate::replay::{read_bytes, serve_lines};
 use crate::status::Status;
 use crate::writing::write_all;
-use call_trace::{ReadTrace, TOO_LONG, Trace, read_trace};
+use call_trace::{ReadTrace, TOO_LONG, Trace};
 use gcc_units::{Credit, MOST_LINES, MOST_TRACE_BYTES, NoMemory};
 use packet_groups::{Groups, samples_stay_few};
 use reply_text::push_signal;
@@ -139,17 +137,6 @@ fn compare_lines(alloc: Global, trace: Trace) -> Result<String, NoMemory>
     credits_are_in_range();
     entries_have_bytes(journal);
     compare_journal(alloc, journal)
-}
-
-/// The trace that the bytes spell. The bytes are let go of.
-fn read_bytes(alloc: Global, bytes: Vec<u8>) -> Result<Trace, ReadTrace>
-    requires { length bytes.items ≤ MOST_TRACE_BYTES }
-    ensures found { IfOk result (λ trace. IsTrace bytes.items (plain trace)) }
-    ensures read { IfOk result (λ trace. trace_at MOST_LINES bytes.items ≡ Ok (plain trace)) }
-    ensures fits { IfOk result (λ trace. Fits (plain trace)) }
-    ensures fault { IfErr result (λ e. FailsTrace e (trace_at MOST_LINES bytes.items)) }
-{
-    read_trace(alloc, bytes.as_slice())
 }
 
 /// The comparison over the trace that the bytes spell. They go before its calls are served.

@@ -1,10 +1,11 @@
 //! Replaying a trace: its calls are served in the order of its lines.
 
-ghost use Rattle.std.specs.Prelude.{◌≡◌, ◌≢◌, ℕ, ◌≤◌, ◌<◌, ◌++◌, [], ◌∷◌, length, IfOk, IfErr, OnOk, IfSome};
+ghost use Rattle.std.specs.Prelude.{◌≡◌, ◌≢◌, ℕ, ◌≤◌, ◌<◌, ◌++◌, [], ◌∷◌, length, Ok, IfOk, IfErr, OnOk, IfSome};
 ghost use Rattle.std.specs.List.{flat_map, range_with_len};
 ghost use Rattle.gcc_units.specs.Listed.{bare};
-ghost use Rattle.call_trace.specs.Reading.{trace_at};
-ghost use Rattle.call_trace.specs.Plain.{plain};
+ghost use Rattle.call_trace.specs.Reading.{trace_at, FailsTrace};
+ghost use Rattle.call_trace.specs.Plain.{plain, Fits};
+ghost use Rattle.call_trace.specs.Grammar.{IsTrace};
 ghost use Rattle.call_trace.specs.Ordered.{served, ordered};
 ghost use Rattle.run_io.specs.Faults.{Rose};
 ghost use Rattle.run_top.specs.declared.words.Command.TheVariants as command;
@@ -90,12 +91,23 @@ fn by_actor(alloc: Global, seen: &SeenList, actors: u32) -> Result<SeenList, NoM
     Ok(list)
 }
 
-/// The printed history of the trace that the bytes spell.
-fn replay(alloc: Global, bytes: &[u8]) -> Result<Bytes, ReadTrace>
-    requires { length bytes.now ≤ MOST_TRACE_BYTES }
-    ensures { GivesText bytes.now result (trace_at MOST_LINES bytes.now) }
+/// The trace that the bytes spell. The bytes are let go of.
+pub fn read_bytes(alloc: Global, bytes: Vec<u8>) -> Result<Trace, ReadTrace>
+    requires { length bytes.items ≤ MOST_TRACE_BYTES }
+    ensures found { IfOk result (λ trace. IsTrace bytes.items (plain trace)) }
+    ensures read { IfOk result (λ trace. trace_at MOST_LINES bytes.items ≡ Ok (plain trace)) }
+    ensures fits { IfOk result (λ trace. Fits (plain trace)) }
+    ensures fault { IfErr result (λ e. FailsTrace e (trace_at MOST_LINES bytes.items)) }
 {
-    let trace = read_trace(alloc, bytes)?;
+    read_trace(alloc, bytes.as_slice())
+}
+
+/// The printed history of the trace that the bytes spell. They go before its calls are served.
+fn replay(alloc: Global, bytes: Vec<u8>) -> Result<Bytes, ReadTrace>
+    requires { length bytes.items ≤ MOST_TRACE_BYTES }
+    ensures { GivesText bytes.items result (trace_at MOST_LINES bytes.items) }
+{
+    let trace = read_bytes(alloc, bytes)?;
     match print_trace(alloc, trace) {
         Ok(text) => Ok(text),
         Err(NoMemory) => Err(ReadTrace::NoMemory),
@@ -135,7 +147,7 @@ pub fn run_replay<S: Source, K: Sink>(alloc: Global, source: &mut S, sink: &mut 
         },
         Err(ReadStop::NoMemory) => return Status::NoMemory,
     };
-    let text = match replay(alloc, bytes.as_slice()) {
+    let text = match replay(alloc, bytes) {
         Ok(text) => text,
         Err(ReadTrace::Fault(fault)) => return Status::BadTrace {
             line: fault.line,

@@ -185,10 +185,10 @@ def rows():
             now += dt
             # 0.25 ms of queue is link / 4000 bits
             queue = max(0, min(1200, queue + (control.r - link) * min(dt, 100_000) * 4 // (link * 1000)))
-            others = 260 if run == 1 and 40 <= n < 110 else 0
-            route = 350 if run == 0 and n >= 110 else 0
+            others = 7 * (n - 30) if run == 1 and 30 <= n < 110 else 0
+            route = (350 if n >= 110 else 0) + (320 if n >= 31 else 0) if run == 0 else 0
             packets = 4 + w % 40
-            lost = packets * (w % 4) // 25 if run == 0 and 55 <= n < 75 else packets // 4 if run == 1 and 118 <= n < 128 else 0
+            lost = packets // 12 if run == 0 and 52 <= n < 95 else packets // 4 if run == 1 and 118 <= n < 128 else 0
             x = {
                 "delay": NONE if n % 23 == 22 else offset + queue + others + route + v % (40 if n % 7 else 90),
                 "got": 0 if n % 23 == 22 else packets - lost,

@@ -1,5 +1,5 @@
 -- Base, floor, mean change and level of the delays. Delays are in quarter-milliseconds.
-use Rattle.std.specs.Prelude.{ℕ, ℤ, pos, neg_ℤ, ◌≤ℤ◌, ◌-ℤ◌, ◌≤◌, ◌+◌, ◌-◌, ◌*◌, ◌/◌, ◌^◌, min, max, unsigned_abs, int_lt, nat_lt, ◌==◌, if◌then◌else◌, Option, Some, None}
+use Rattle.std.specs.Prelude.{ℕ, ℤ, neg_ℤ, ◌≤ℤ◌, ◌-ℤ◌, ◌≤◌, ◌+◌, ◌-◌, ◌*◌, ◌/◌, ◌^◌, min, max, unsigned_abs, int_lt, nat_lt, ◌==◌, if◌then◌else◌, Option, Some, None}
 use Rattle.std.specs.Int.{int_min}
 use Rattle.std.specs.Option.{ForSome}
 use Rattle.level_control.specs.declared.state.Delays.{Delays}

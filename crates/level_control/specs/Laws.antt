@@ -1,5 +1,5 @@
 -- What holds of each report to the level control.
-use Rattle.std.specs.Prelude.{◌≡◌, ℕ, ◌<◌, ◌≤◌, ◌+◌, ◌*◌, ◌/◌, max, Bool, true, false, Option, Some, None, unwrap_or}
+use Rattle.std.specs.Prelude.{◌≡◌, ℕ, ◌<◌, ◌≤◌, ◌+◌, ◌*◌, ◌/◌, max, Bool, true, false, Some, None, unwrap_or}
 use Rattle.fixed_math.specs.Root.{root}
 use Rattle.level_control.specs.declared.state.Delays.{Delays}
 use Rattle.level_control.specs.declared.state.Drain.{Drain}

@@ -1,5 +1,5 @@
 -- What losses make of a rate. Shares are in thousandths.
-use Rattle.std.specs.Prelude.{ℕ, ◌+◌, ◌-◌, ◌*◌, ◌/◌, min, Bool, true, false, ◌&&◌, ◌||◌, nat_le, nat_lt, if◌then◌else◌, Option, Some, None, is_some, is_none, unwrap_or}
+use Rattle.std.specs.Prelude.{ℕ, ◌+◌, ◌-◌, ◌*◌, ◌/◌, min, Bool, false, ◌&&◌, ◌||◌, nat_le, nat_lt, if◌then◌else◌, Option, Some, None, is_some, is_none, unwrap_or}
 use Rattle.level_control.specs.declared.state.Report.{Report}
 use Rattle.level_control.specs.declared.state.Losses.{Losses}
 use Rattle.level_control.specs.declared.state.State.{State}

@@ -1,5 +1,5 @@
 -- A whole report: what it shows, and then the results of probes.
-use Rattle.std.specs.Prelude.{ℕ, Bool, if◌then◌else◌, List, is_some}
+use Rattle.std.specs.Prelude.{Bool, if◌then◌else◌, List, is_some}
 use Rattle.gcc_units.specs.declared.shared_types.Bounds.{Bounds}
 use Rattle.gcc_units.specs.declared.shared_types.Signal.{Signal}
 use Rattle.gcc_units.specs.declared.shared_types.Signal.TheVariants.{Normal, Over, Under}

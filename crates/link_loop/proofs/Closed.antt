@@ -1,7 +1,6 @@
 -- What was offered and reported is told by the history.
-use Rattle.std.proofs.Common.{◌≡◌, ℕ, suc, zero, ◌+◌, ◌*◌, ◌%◌, ◌<◌, ◌≤◌, max, Bool, true, false, cond, not, nat_lt, if◌then◌else◌, List, [], ◌∷◌, ◌++◌, length, map, fold, All, refl, sym, ◌∙◌, ap, subst, append-nil, append_assoc, arith}
+use Rattle.std.proofs.Common.{◌≡◌, ℕ, suc, zero, ◌%◌, ◌≤◌, max, Bool, true, false, cond, nat_lt, if◌then◌else◌, List, [], ◌∷◌, ◌++◌, map, refl, sym, ◌∙◌, ap, append-nil, append_assoc, arith}
 use Rattle.std.specs.Prelude.{◌==◌}
-use Rattle.std.specs.List.{flat_map}
 use Rattle.std.proofs.lemmas.Bool.Decides.{nat_tests}
 use Rattle.std.proofs.lemmas.List.{map-append}
 use Rattle.std.proofs.lemmas.List.Sums.{fold-append}
@@ -30,7 +29,7 @@ use Rattle.link_path.specs.Link as link
 use Rattle.link_path.specs.Receiver.{next_reports, told_all}
 use Rattle.link_path.proofs.Offered.{offers-push}
 use Rattle.link_loop.specs.declared.TheConstants.{SOURCES, PACER, REPORTER, OPENER, MOST_MILLIS}
-use Rattle.link_loop.specs.Looping.{Looping, is_open, grown, ended, asked, with_opening, with_arrivals, served, all_served, with_reports, with_audio, with_video, with_packets, with_frame, offer_of, offered_at, with_offers, paced, with_pace, all_due, millisecond, unused, looping}
+use Rattle.link_loop.specs.Looping.{Looping, is_open, grown, ended, asked, with_opening, with_arrivals, served, all_served, with_reports, with_audio, with_video, with_packets, with_frame, offer_of, offered_at, with_offers, paced, with_pace, all_due, millisecond, looping}
 use Rattle.link_loop.specs.ClosedLoop.{offers_in, offers_of, report_in, reports_in}
 use Rattle.link_loop.proofs.Quiet.{IsQuiet, quiet-reply}
 

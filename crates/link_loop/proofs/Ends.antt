@@ -1,12 +1,12 @@
 -- The end of a closed loop.
-use Rattle.std.proofs.Common.{◌≡◌, ℕ, ◌+◌, ◌≤◌, nat_lt, if◌then◌else◌, List, ◌++◌, length, map, refl, sym, ◌∙◌, ap, arith}
+use Rattle.std.proofs.Common.{◌≡◌, ℕ, ◌+◌, ◌≤◌, List, ◌++◌, map, ◌∙◌, ap, arith}
 use Rattle.twcc_report.specs.Spelling.{Feedback}
 use Rattle.send_core.specs.declared.call.Entry.{Entry}
 use Rattle.send_core.specs.History.{sent}
 use Rattle.send_laws.proofs.Numbering.{all-numbered}
 use Rattle.link_path.specs.declared.link.LinkSettings.{LinkSettings}
 use Rattle.link_path.specs.declared.link.Arrival.{Arrival}
-use Rattle.link_path.specs.Link.{Offer, Event, offers, held, delivered, arrivals, dropped}
+use Rattle.link_path.specs.Link.{Offer, offers, held, delivered, arrivals, dropped}
 use Rattle.link_path.specs.KeptLink.{IsLink}
 use Rattle.link_path.proofs.LinkRuns.{whole}
 use Rattle.link_loop.specs.declared.TheConstants.{MOST_MILLIS}
@@ -16,6 +16,7 @@ use Rattle.link_loop.specs.ClosedLoop.{offers_of, count_of, numbers, IsClosedLoo
 use Rattle.link_loop.proofs.Order.{order-looping}
 use Rattle.link_loop.proofs.Closed.{IsTold, told-looping}
 use Rattle.link_loop.proofs.Split.{IsFront, front-looping}
+use Rattle.link_loop.proofs.Reported.{IsReported, reported-looping, told-delivered}
 use Rattle.link_loop.proofs.Once.{numbers-append, offer_number, split, same-numbers, each-once}
 
 pub closed : (s : LinkSettings) (n : ℕ) → IsLink s → 1 ≤ n → n ≤ MOST_MILLIS
@@ -26,6 +27,7 @@ closed s n link some few =
     let told : IsTold n m = told-looping s n few in
     let all : delivered s m.events ++ held s m.events ≡ arrivals s (offers m.events) = whole s m.events link order.bytes in
     let front : IsFront n (delivered s m.events) (arrivals s (offers_of m.history)) = front-looping s n (arrivals s (offers_of m.history)) link (all ∙ ap (arrivals s) told.offered) in
+    let reported : IsReported m.receiver m.reports (delivered s m.events) m.over = reported-looping s n link few in
     record {
       legal = order.legal;
       spelled = told.spelled;
@@ -42,6 +44,8 @@ closed s n link some few =
           let sums : count_of k (numbers (delivered s m.events)) + count_of k (dropped s (offers m.events)) + count_of k (numbers (held s m.events)) ≡ count_of k (map offer_number (offers m.events)) =
           omega (arith, parts, whole_, offered) in
           sums ∙ as_sent ∙ each-once k (sent m.history) (all-numbered m.history order.legal);
+      told = told-delivered m.receiver m.reports (delivered s m.events) m.over reported;
+      bases = reported.based;
     }
 
 pub closed-by : (s : LinkSettings) (n : ℕ) (history : List Entry) (out inside : List Arrival) (lost : List ℕ) (reports : List Feedback) → IsLink s → 1 ≤ n → n ≤ MOST_MILLIS

@@ -1,21 +1,18 @@
 -- What the sources enqueue, and when it is due.
-use Rattle.std.proofs.Common.{◌≡◌, ℕ, suc, ◌+◌, ◌%◌, Bool, true, false, if◌then◌else◌, List, refl, sym, ◌∙◌, ap, subst, arith}
+use Rattle.std.proofs.Common.{◌≡◌, ℕ, suc, ◌+◌, ◌%◌, Bool, true, false, if◌then◌else◌, refl, ◌∙◌, ap, arith}
 use Rattle.std.specs.Prelude.{◌==◌}
 use Rattle.std.proofs.lemmas.Bool.Decides.{nat_tests}
 use Rattle.gcc_units.specs.Listed.{Listed, bare}
 use Rattle.gcc_units.specs.declared.class.Class.TheVariants.{Audio, Video}
-use Rattle.twcc_report.specs.Spelling.{Feedback}
-use Rattle.send_core.specs.declared.call.Call.{Call}
 use Rattle.send_core.specs.declared.call.Call.TheVariants as call
-use Rattle.send_core.specs.declared.call.Entry.{Entry}
 use Rattle.send_core.specs.Estimates.{target}
-use Rattle.call_trace.specs.MadePackets.{made_packet, audio_packet, video_packet, frame_packets, packet_bytes}
+use Rattle.call_trace.specs.MadePackets.{made_packet, frame_packets, packet_bytes}
 use Rattle.call_trace.specs.Making.{is_audio, is_video, count_of, moment, is_frame_due}
 use Rattle.link_path.specs.declared.link.LinkSettings.{LinkSettings}
 use Rattle.link_path.specs.Receiver.{KeptReceiver, next_reports, told_all}
 use Rattle.link_loop.specs.declared.TheConstants.{SOURCES}
 use Rattle.link_loop.specs.declared.looper.Looper.{Looper}
-use Rattle.link_loop.specs.Looping.{Looping, asked, all_served, with_reports, with_audio, with_video, with_packets, with_frame, paced, with_pace, all_due, millisecond, unused, looping}
+use Rattle.link_loop.specs.Looping.{Looping, asked, all_served, with_reports, with_audio, with_video, with_packets, with_frame, millisecond, unused, looping}
 use Rattle.link_loop.specs.Kept.{IsAt}
 
 pub audio-is : (t at count t_ : ℕ) (wire : Listed ℕ) (l : Looper) (s : LinkSettings) (m : Looping) → IsAt l s m → t % 20 ≡ 0 → at ≡ moment t

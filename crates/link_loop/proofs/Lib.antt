@@ -8,4 +8,5 @@ mod Quiet
 mod Closed
 mod Once
 mod Split
+mod Reported
 mod Ends

@@ -1,14 +1,14 @@
 -- What is inside the link stays in order, and what was offered has bytes.
-use Rattle.std.proofs.Common.{◌≡◌, ℕ, suc, zero, ◌+◌, ◌-◌, ◌*◌, ◌/◌, ◌%◌, ◌<◌, ◌≤◌, ◌⊎◌, inl, inr, max, ◌&&◌, Bool, true, false, not, nat_lt, nat_le, if◌then◌else◌, List, [], ◌∷◌, ◌++◌, length, take, drop, map, fold, All, refl, sym, ◌∙◌, ap, subst, append-nil, append_assoc, arith, le_refl, length-append}
+use Rattle.std.proofs.Common.{◌≡◌, ℕ, suc, zero, ◌+◌, ◌-◌, ◌*◌, ◌/◌, ◌%◌, ◌<◌, ◌≤◌, ◌⊎◌, inl, inr, max, ◌&&◌, Bool, true, false, not, nat_lt, if◌then◌else◌, List, [], ◌∷◌, ◌++◌, length, take, drop, map, All, refl, sym, ◌∙◌, ap, subst, append-nil, append_assoc, arith, le_refl, length-append}
 use Rattle.std.specs.Prelude.{◌==◌}
 use Rattle.std.specs.Int.{div_ceil}
-use Rattle.std.specs.List.{filter, prefix_len}
+use Rattle.std.specs.List.{prefix_len}
 use Rattle.std.proofs.lemmas.Bool.{cases_lt}
 use Rattle.std.proofs.lemmas.Grind.{div_ceil_times}
 use Rattle.std.proofs.lemmas.Nat.{mul-le}
 use Rattle.std.proofs.lemmas.List.{length-replicate}
 use Rattle.std.proofs.lemmas.Bool.Decides.{nat_tests}
-use Rattle.std.proofs.lemmas.List.Elements.{All-nil, All-cons, All-head, All-tail, All-push, All-append}
+use Rattle.std.proofs.lemmas.List.Elements.{All-nil, All-push}
 use Rattle.gcc_units.specs.declared.limits.TheConstants.{MOST_ENTRIES, GREATEST_PACKET}
 use Rattle.gcc_units.specs.declared.class.Class.TheVariants.{Audio, Video}
 use Rattle.gcc_units.specs.Listed.{bare}
@@ -21,7 +21,7 @@ use Rattle.send_core.specs.declared.call.Call.TheVariants as call
 use Rattle.send_core.specs.declared.call.Entry.{Entry}
 use Rattle.send_core.specs.History.{entry, sent, sent_by}
 use Rattle.send_core.specs.Estimates.{target}
-use Rattle.send_core.specs.Reply.{reply, IsLegal}
+use Rattle.send_core.specs.Reply.{reply}
 use Rattle.send_core.proofs.Legality.{IsLegal-push, IsLegal-first}
 use Rattle.call_trace.specs.MadePackets.{audio_packet, video_packet, frame_packets, packet_bytes}
 use Rattle.call_trace.specs.Making.{is_audio, is_video, count_of, moment, opening, is_frame_due}
@@ -30,15 +30,15 @@ use Rattle.link_path.specs.declared.link.Arrival.{Arrival}
 use Rattle.link_path.specs.Link.{Offer, Event, offered, offers, is_dropped, arrival_at, arrival_of, given, held, has_arrived, is_on_its_way, free_after}
 use Rattle.link_path.specs.Link as link
 use Rattle.link_path.specs.KeptLink.{IsLink, HasBytes}
-use Rattle.link_path.specs.Receiver.{KeptReceiver, next_from, next_reports, told_all}
+use Rattle.link_path.specs.Receiver.{next_from, next_reports, told_all}
 use Rattle.link_path.proofs.Offered.{offers-push, held-push}
 use Rattle.link_path.proofs.Rising.{cut}
 use Rattle.link_path.proofs.LinkRuns.{held-rises}
 use Rattle.link_loop.specs.declared.TheConstants.{SOURCES, PACER, REPORTER, OPENER}
-use Rattle.link_loop.specs.Looping.{Looping, is_open, grown, ended, asked, with_opening, with_arrivals, served, all_served, with_reports, with_audio, with_video, with_packets, with_frame, offer_of, offered_at, with_offers, paced, with_pace, all_due, millisecond, unused, looping}
-use Rattle.link_loop.specs.Kept.{IsFit, HasFitCall, IsSendable, RiseWithin, IsInOrder}
+use Rattle.link_loop.specs.Looping.{Looping, is_open, grown, ended, asked, with_opening, with_arrivals, served, all_served, with_reports, with_audio, with_video, with_packets, with_frame, offer_of, offered_at, with_offers, paced, with_pace, all_due, millisecond, looping}
+use Rattle.link_loop.specs.Kept.{IsFit, HasFitCall, RiseWithin, IsInOrder}
 use Rattle.link_loop.proofs.Offering.{next-append}
-use Rattle.link_loop.proofs.Sends.{AreFrom, IsAs, sends-from}
+use Rattle.link_loop.proofs.Sends.{AreFrom, sends-from}
 
 -- ---- numbers that rise
 

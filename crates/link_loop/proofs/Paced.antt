@@ -1,5 +1,5 @@
 -- What a pace makes of what a loop stands for.
-use Rattle.std.proofs.Common.{◌≡◌, ℕ, ◌<◌, ◌&&◌, Bool, true, false, not, nat_lt, if◌then◌else◌, List, [], ◌∷◌, ◌++◌, length, All, refl, sym, ◌∙◌, ap, subst}
+use Rattle.std.proofs.Common.{◌≡◌, ℕ, ◌&&◌, Bool, true, not, nat_lt, List, [], ◌∷◌, ◌++◌, length, All, sym, ◌∙◌, ap, subst}
 use Rattle.gcc_units.specs.Listed.{Listed}
 use Rattle.gcc_units.specs.declared.limits.TheConstants.{MOST_ENTRIES}
 use Rattle.pacer.specs.declared.sent.Sent.{Sent}
@@ -13,9 +13,9 @@ use Rattle.call_trace.specs.Making.{moment}
 use Rattle.link_path.specs.declared.link.LinkSettings.{LinkSettings}
 use Rattle.link_loop.specs.declared.TheConstants.{PACER}
 use Rattle.link_loop.specs.declared.looper.Looper.{Looper}
-use Rattle.link_loop.specs.Looping.{Looping, is_open, grown, ended, with_offers, paced}
+use Rattle.link_loop.specs.Looping.{Looping, is_open, grown, with_offers, paced}
 use Rattle.link_loop.specs.Kept.{IsAt, IsSound, IsSendable, HasFitCall}
-use Rattle.link_loop.proofs.Steps.{open-by, at-over, at-grown}
+use Rattle.link_loop.proofs.Steps.{open-by, at-grown}
 use Rattle.link_loop.proofs.Sends.{sends-from, all-sendable}
 
 -- the records of a reply to a pace

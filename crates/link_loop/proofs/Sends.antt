@@ -1,15 +1,13 @@
 -- What a pace sends: packets with bytes, numbered one after the other.
-use Rattle.std.proofs.Common.{◌≡◌, ℕ, suc, zero, ◌+◌, ◌≤◌, Bool, true, false, cond, nat_lt, Option, Some, None, IfSome, List, [], ◌∷◌, ◌++◌, length, All, refl, ap, ◌∙◌, subst, arith}
-use Rattle.std.proofs.lemmas.Bool.Decides.{nat_tests}
+use Rattle.std.proofs.Common.{◌≡◌, ℕ, suc, zero, ◌+◌, ◌≤◌, Bool, true, false, cond, nat_lt, Option, Some, None, IfSome, List, [], ◌∷◌, length, All, refl, ap, ◌∙◌, arith}
 use Rattle.std.proofs.lemmas.List.Elements.{All-nil, All-cons, All-head, All-tail, All-append, All-filter}
-use Rattle.gcc_units.specs.Listed.{Listed}
 use Rattle.gcc_units.specs.declared.limits.TheConstants.{GREATEST_MOMENT, GREATEST_PACKET, MOST_SENDS}
 use Rattle.pace_queues.specs.declared.ticket.Ticket.{Ticket}
 use Rattle.pace_queues.specs.Waiting.{next}
 use Rattle.pace_queues.specs.Laws.{next-is_one}
 use Rattle.pacer.specs.declared.sent.Sent.{Sent}
 use Rattle.pacer.specs.declared.course.Terms.{Terms}
-use Rattle.pacer.specs.Pace.{Standing, unsent, rule, after, then_on, paced, paced-zero, paced-suc}
+use Rattle.pacer.specs.Pace.{Standing, rule, after, then_on, paced, paced-zero, paced-suc}
 use Rattle.pacer.specs.Ruled.{size_in, rule-is}
 use Rattle.send_core.specs.declared.call.Call.{Call}
 use Rattle.send_core.specs.declared.call.Call.TheVariants as call
@@ -17,7 +15,7 @@ use Rattle.send_core.specs.declared.call.Reply.{Reply}
 use Rattle.send_core.specs.declared.call.Reply.TheVariants as given
 use Rattle.send_core.specs.declared.call.Cause.TheVariants as cause
 use Rattle.send_core.specs.declared.call.Entry.{Entry}
-use Rattle.send_core.specs.History.{AcceptedPacket, at_of, later, now, accepted, accepted_by, ticket_of, tickets, tickets_from, sent, sent_by, waiting}
+use Rattle.send_core.specs.History.{AcceptedPacket, later, now, accepted, accepted_by, ticket_of, tickets, tickets_from, sent, sent_by, waiting}
 use Rattle.send_core.specs.Reply.{reply, reply_in_time, terms_at, standing_at}
 use Rattle.link_loop.specs.Kept.{IsFit, HasFitCall, IsSendable}
 

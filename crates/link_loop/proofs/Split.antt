@@ -1,9 +1,8 @@
 -- What was delivered has arrived by the last question to the link, and what is inside has not.
-use Rattle.std.proofs.Common.{◌≡◌, ℕ, suc, zero, ◌+◌, ◌-◌, ◌*◌, ◌%◌, ◌<◌, ◌≤◌, max, Bool, true, false, not, nat_le, if◌then◌else◌, List, [], ◌∷◌, ◌++◌, length, map, fold, All, refl, sym, ◌∙◌, ap, subst, append-nil, append_assoc, arith}
+use Rattle.std.proofs.Common.{◌≡◌, ℕ, suc, zero, ◌+◌, ◌-◌, ◌%◌, ◌<◌, ◌≤◌, Bool, true, false, nat_le, if◌then◌else◌, List, [], ◌∷◌, ◌++◌, length, map, All, refl, sym, ◌∙◌, ap, subst, append-nil, append_assoc, arith}
 use Rattle.std.specs.Prelude.{◌==◌}
 use Rattle.std.specs.List.{filter}
 use Rattle.std.proofs.lemmas.Bool.Decides.{nat_tests}
-use Rattle.std.proofs.lemmas.List.Sums.{fold-append}
 use Rattle.std.proofs.lemmas.List.Elements.{All-nil, All-cons, All-head, All-tail, All-push, All-append, All-weaker}
 use Rattle.gcc_units.specs.declared.class.Class.TheVariants.{Audio, Video}
 use Rattle.gcc_units.specs.Listed.{bare}
@@ -27,7 +26,7 @@ use Rattle.link_path.specs.Receiver.{next_reports, told_all}
 use Rattle.link_path.proofs.Offered.{held-push, delivered-push}
 use Rattle.link_path.proofs.LinkRuns.{takes-time}
 use Rattle.link_loop.specs.declared.TheConstants.{SOURCES, PACER, REPORTER, OPENER}
-use Rattle.link_loop.specs.Looping.{Looping, is_open, grown, ended, asked, with_opening, with_arrivals, served, all_served, with_reports, with_audio, with_video, with_packets, with_frame, offer_of, offered_at, with_offers, paced, with_pace, all_due, millisecond, unused, looping}
+use Rattle.link_loop.specs.Looping.{Looping, is_open, grown, ended, asked, with_opening, with_arrivals, served, all_served, with_reports, with_audio, with_video, with_packets, with_frame, offer_of, offered_at, with_offers, paced, with_pace, all_due, millisecond, looping}
 use Rattle.link_loop.specs.Kept.{IsInOrder}
 use Rattle.link_loop.proofs.Sends.{AreFrom, sends-from}
 use Rattle.link_loop.proofs.Order.{order-opening, order-arrivals, order-reports, order-audio, order-frame, order-looping}

@@ -1,5 +1,5 @@
 -- What the end of a closed loop is, told by the history of its calls.
-use Rattle.std.specs.Prelude.{◌≡◌, ℕ, ◌+◌, ◌<◌, Bool, nat_lt, ◌==◌, if◌then◌else◌, List, [], ◌∷◌, ◌++◌, length, map, filter, count_by}
+use Rattle.std.specs.Prelude.{◌≡◌, ℕ, ◌+◌, ◌<◌, nat_lt, ◌==◌, if◌then◌else◌, List, [], ◌∷◌, ◌++◌, length, map, filter, count_by}
 use Rattle.std.specs.List.{flat_map}
 use Rattle.twcc_report.specs.Spelling.{Feedback}
 use Rattle.twcc_report.specs.Canonical.{canonical}
@@ -14,6 +14,7 @@ use Rattle.call_trace.specs.Making.{moment}
 use Rattle.link_path.specs.declared.link.LinkSettings.{LinkSettings}
 use Rattle.link_path.specs.declared.link.Arrival.{Arrival}
 use Rattle.link_path.specs.Link.{Offer, arrivals, dropped, has_arrived}
+use Rattle.link_path.specs.Told.{all_told, statuses_in, AreBased, times_of}
 use Rattle.link_loop.specs.Looping.{offer_of}
 
 -- ---- what a history offers and reports
@@ -67,3 +68,7 @@ pub record IsClosedLoop (s : LinkSettings) (millis : ℕ) (history : List Entry)
   pub delivered_are : delivered ≡ filter (has_arrived (moment last)) (arrivals s (offers_of history))
   -- each number that was sent is that of one packet: delivered, dropped or inside
   pub once : (k : ℕ) → count_of k (numbers delivered) + count_of k lost + count_of k (numbers inside) ≡ (if nat_lt k (length (sent history)) then 1 else 0)
+  -- the statuses of the reports are, one behind the other, those of the numbers from 0 on: received with its arrival where the number was delivered
+  pub told : all_told reports ≡ times_of delivered 0 (length (statuses_in reports))
+  -- each report begins where the ones before it end
+  pub bases : AreBased 0 reports

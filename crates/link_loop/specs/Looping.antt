@@ -1,5 +1,5 @@
 -- A closed loop: what sources, a pacer and a receiver ask of a sender over a link, millisecond by millisecond.
-use Rattle.std.specs.Prelude.{ℕ, zero, suc, ◌+◌, ◌*◌, ◌%◌, Bool, true, false, not, nat_lt, ◌==◌, ◌&&◌, if◌then◌else◌, List, [], ◌∷◌, ◌++◌, length, map, fold}
+use Rattle.std.specs.Prelude.{ℕ, zero, suc, ◌%◌, Bool, true, false, not, nat_lt, ◌==◌, ◌&&◌, if◌then◌else◌, List, [], ◌∷◌, ◌++◌, length, map, fold}
 use Rattle.gcc_units.specs.declared.class.Class.TheVariants.{Audio, Video}
 use Rattle.gcc_units.specs.declared.limits.TheConstants.{MOST_ENTRIES}
 use Rattle.gcc_units.specs.Listed.{bare}

@@ -7,3 +7,4 @@ mod Built
 pub mod Heard
 mod Writable
 mod OneWay
+pub mod Telling

@@ -1,10 +1,10 @@
 -- Numbers are divided into reports in one way.
-use Rattle.std.proofs.Common.{◌≡◌, ℕ, ◌-◌, Bool, true, false, nat_lt, if◌then◌else◌, Option, Some, None, List, [], ◌∷◌, ◌++◌, fold, refl, sym, ◌∙◌, ap, subst, append-nil, append_assoc, arith}
+use Rattle.std.proofs.Common.{◌≡◌, ℕ, ◌-◌, Bool, true, false, nat_lt, Option, Some, None, List, [], ◌∷◌, ◌++◌, fold, refl, sym, ◌∙◌, ap, subst, append-nil, append_assoc, arith}
 use Rattle.std.proofs.lemmas.Bool.Decides.{nat_tests}
 use Rattle.std.proofs.lemmas.List.Sums.{fold-append}
 use Rattle.link_path.specs.declared.TheConstants.{GREATEST_DELTA}
 use Rattle.link_path.specs.Division.{Run, Division, begins, placed, divided, runs_with, runs_of, numbers_in}
-use Rattle.link_path.specs.OneDivision.{GoOn, IsRun, EndsBefore, IsDivision, Divides, IsTheOne}
+use Rattle.link_path.specs.OneDivision.{GoOn, IsRun, EndsBefore, IsDivision, IsTheOne}
 use Rattle.link_path.proofs.Heard.{all-numbers}
 
 none-far : (time : ℕ) → nat_lt GREATEST_DELTA (time - time) ≡ false

@@ -1,16 +1,15 @@
 -- Each report that a receiver makes has a spelling: its run has 1 to 65,535 numbers, and its reference fits.
-use Rattle.std.proofs.Common.{◌≡◌, ℕ, suc, zero, ◌+◌, ◌-◌, ◌*◌, ◌/◌, ◌≤◌, ◌<◌, ◌||◌, Bool, true, false, nat_le, nat_lt, if◌then◌else◌, Option, Some, None, List, [], ◌∷◌, ◌++◌, length, fold, replicate, All, refl, sym, subst, ap, arith, length-append}
+use Rattle.std.proofs.Common.{◌≡◌, ℕ, suc, zero, ◌+◌, ◌-◌, ◌*◌, ◌/◌, ◌≤◌, ◌||◌, Bool, true, false, nat_le, nat_lt, Option, Some, None, List, [], ◌∷◌, ◌++◌, length, fold, replicate, All, refl, arith, length-append}
 use Rattle.std.proofs.lemmas.Int.{ints}
 use Rattle.std.proofs.lemmas.Bool.Decides.{nat_tests}
 use Rattle.std.proofs.lemmas.List.Elements.{All-nil, All-cons, All-head, All-tail, All-push, All-append}
 use Rattle.gcc_units.specs.Walk.{each_by}
 use Rattle.gcc_units.specs.declared.limits.TheConstants.{MOST_STATUSES, ARRIVAL_MICROSECONDS}
-use Rattle.twcc_report.specs.Spelling.{Feedback}
 use Rattle.link_path.specs.declared.TheConstants.{GREATEST_DELTA, GREATEST_TAKEN}
 use Rattle.link_path.specs.declared.link.Arrival.{Arrival}
-use Rattle.link_path.specs.Division.{Run, Division, Told, begins, placed, divided, runs_with, runs_of, first_time, last_time, time_after, numbers_in, report_of, reports_on, reference_of, statuses}
+use Rattle.link_path.specs.Division.{Run, Division, Told, begins, placed, divided, runs_with, runs_of, first_time, last_time, time_after, numbers_in, report_of, reference_of, statuses}
 use Rattle.link_path.specs.Receiver.{KeptReceiver, quarters, heard, NumbersRise, IsReceiver, IsWritable, told_before, next_reports}
-use Rattle.link_path.proofs.Runs.{statuses-length, numbers-push}
+use Rattle.link_path.proofs.Runs.{statuses-length}
 
 abbrev greatest : ℕ
 greatest = GREATEST_TAKEN / ARRIVAL_MICROSECONDS

@@ -5,3 +5,4 @@ pub mod Division
 pub mod OneDivision
 pub mod Building
 pub mod Receiver
+pub mod Told

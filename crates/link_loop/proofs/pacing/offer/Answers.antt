@@ -1,4 +1,4 @@
-use Rattle.std.proofs.Common.{◌∙◌, sym, ap, ◌++◌, ◌∷◌, [], List, ℕ, append-nil}
+use Rattle.std.proofs.Common.{◌∙◌, sym, ap, ◌++◌, List, ℕ, append-nil}
 use Rattle.std.proofs.lemmas.Result.{on_ok_weaker}
 use Rattle.link_path.specs.Link.{offers}
 use Rattle.link_loop.specs.Looping.{offer_of}

@@ -1,9 +1,4 @@
-use Rattle.std.proofs.Common.{◌≡◌, ◌∙◌, ap, sym, subst, All, List}
 use Rattle.std.proofs.lemmas.Result.{on_ok_weaker}
-use Rattle.pacer.specs.declared.sent.Sent.{Sent}
-use Rattle.send_core.specs.declared.call.Reply.{Reply}
-use Rattle.send_core.specs.History.{sent_by}
-use Rattle.link_loop.specs.Kept.{IsAt, IsSendable}
 use Rattle.link_loop.proofs.Paced.{records-sendable, pace-open}
 use Rattle.link_loop.proofs.pacing.pace_now.Goals as goal
 

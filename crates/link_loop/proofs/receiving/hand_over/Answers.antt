@@ -1,4 +1,4 @@
-use Rattle.std.proofs.Common.{◌≡◌, ◌≤◌, ap, sym, subst, List, arith}
+use Rattle.std.proofs.Common.{◌≤◌, sym, subst, List, arith}
 use Rattle.link_path.specs.declared.TheConstants.{GREATEST_TAKEN}
 use Rattle.link_path.specs.declared.link.Arrival.{Arrival}
 use Rattle.link_path.specs.Receiver.{NumbersRise, next_from}

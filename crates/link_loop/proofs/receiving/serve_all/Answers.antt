@@ -1,4 +1,4 @@
-use Rattle.std.proofs.Common.{◌<◌, ◌≤◌, ◌∙◌, ◌∷◌, [], ap, sym, subst, take, length, map, List, arith}
+use Rattle.std.proofs.Common.{◌<◌, ◌∙◌, ◌∷◌, [], ap, sym, subst, take, length, map, List, arith}
 use Rattle.std.proofs.lemmas.Bool.Decides.{nat_tests}
 use Rattle.std.proofs.lemmas.List.{take_more, take_all}
 use Rattle.twcc_report.specs.Spelling.{view}

@@ -1,5 +1,4 @@
-use Rattle.twcc_report.specs.Spelling.{view}
-use Rattle.link_loop.proofs.Steps.{served-over, served-open}
+use Rattle.link_loop.proofs.Steps.{served-open}
 use Rattle.link_loop.proofs.receiving.serve_report.Goals as goal
 
 pub returns-clause-at : goal.returns-clause-at

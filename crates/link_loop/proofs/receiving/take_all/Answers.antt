@@ -1,4 +1,4 @@
-use Rattle.std.proofs.Common.{◌<◌, ◌≤◌, ◌∙◌, ◌++◌, ap, sym, take, length, List, append-nil, arith}
+use Rattle.std.proofs.Common.{◌<◌, ◌∙◌, ◌++◌, ap, sym, take, length, List, append-nil, arith}
 use Rattle.std.proofs.lemmas.Bool.Decides.{nat_tests}
 use Rattle.std.proofs.lemmas.List.{take_more, take_all}
 use Rattle.link_path.specs.declared.link.Arrival.{Arrival}

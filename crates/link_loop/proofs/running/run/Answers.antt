@@ -1,4 +1,4 @@
-use Rattle.std.proofs.Common.{◌≡◌, ◌∙◌, ap, sym, subst, arith}
+use Rattle.std.proofs.Common.{sym, subst}
 use Rattle.link_loop.specs.Looping.{looping}
 use Rattle.link_loop.specs.Kept.{IsAt}
 use Rattle.link_loop.proofs.Frames.{looping-none, looping-more}

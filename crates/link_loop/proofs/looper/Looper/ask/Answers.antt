@@ -1,4 +1,3 @@
-use Rattle.std.proofs.Common.{refl}
 use Rattle.link_loop.proofs.Steps.{ask-over, ask-open}
 use Rattle.link_loop.proofs.looper.Looper.ask.Goals as goal
 

@@ -1,10 +1,10 @@
-use Rattle.std.proofs.Common.{◌≡◌, ◌∙◌, ap, sym, subst, map, [], All, List, arith}
+use Rattle.std.proofs.Common.{◌≡◌, ◌∙◌, ap, sym, subst, map, [], All}
 use Rattle.gcc_units.specs.Listed.{Listed}
-use Rattle.twcc_report.specs.Spelling.{Feedback, view}
+use Rattle.twcc_report.specs.Spelling.{view}
 use Rattle.twcc_report.specs.declared.report.Report.{Report}
 use Rattle.link_path.specs.Division.{runs_of, last_time}
 use Rattle.link_path.specs.Building.{IsAt}
-use Rattle.link_path.specs.Receiver.{KeptReceiver, IsReceiver, IsWritable, heard, next_from, next_reports, told_before, told_all}
+use Rattle.link_path.specs.Receiver.{KeptReceiver, IsWritable, heard, next_from, next_reports, told_before, told_all}
 use Rattle.link_path.proofs.Heard.{all-numbers, empty-by, kept-after}
 use Rattle.link_path.proofs.Writable.{all-writable, last-kept}
 use Rattle.link_path.proofs.receiver.Receiver.reports.Goals as goal

@@ -8,3 +8,4 @@ pub mod Heard
 mod Writable
 mod OneWay
 pub mod Telling
+mod Lists

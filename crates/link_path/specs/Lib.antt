@@ -6,3 +6,4 @@ pub mod OneDivision
 pub mod Building
 pub mod Receiver
 pub mod Told
+pub mod Taking

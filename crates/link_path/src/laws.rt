@@ -11,8 +11,9 @@ ghost use Rattle.link_path.specs.KeptLink.{IsLink, HasBytes};
 ghost use Rattle.link_path.specs.LinkLaws.{bytes_through, times_through};
 ghost use Rattle.link_path.specs.Division.{Run, Told, numbers_in, report_of, runs_of};
 ghost use Rattle.link_path.specs.OneDivision.{IsTheOne};
-ghost use Rattle.link_path.specs.Receiver.{KeptReceiver, NumbersRise, next_from, next_reports};
-ghost use Rattle.link_path.specs.Told.{AreBased, TimesRise, all_told, times_of};
+ghost use Rattle.link_path.specs.Receiver.{NumbersRise, next_from};
+ghost use Rattle.link_path.specs.Told.{AreBased, TimesRise, all_told, statuses_in, times_of};
+ghost use Rattle.link_path.specs.Taking.{Step, listed_takes, reported, takes};
 
 /// Between the arrivals of two packets the link had time for all that arrive behind the first one, up to the
 /// second: for each one's own time on the line, and for all their bits at the link's rate.
@@ -50,14 +51,17 @@ pub fn none_lost_from_the_count()
 {}
 
 /// The runs that a list reports on are, one behind the other, all of its numbers, each once. A report has one
-/// status for each number of its run. Where arrivals rise, the statuses tell, number by number, when each one
-/// arrived, or that it did not.
+/// status for each number of its run. All statuses of a receiver's reports are, list by list and report by report,
+/// those of the numbers from 0 up to the greatest that was taken before the last list, and each report begins where
+/// the ones before it end. Where arrivals rise, a status tells when its number arrived, or that it did not.
 pub fn reports_tell_of_each_number_once()
     ensures runs { (numbers : List (Option ℕ)) → numbers_in (runs_of numbers) ≡ numbers }
     ensures statuses { (told : Told) (before : List Run) (run : Run) → length (report_of told before run).statuses ≡ length run }
-    ensures times { (now : KeptReceiver) → NumbersRise now.from now.taken → TimesRise 0 now.taken
-        → all_told (next_reports now) ≡ times_of now.taken now.from (next_from now.from now.taken - now.from) }
-    ensures bases { (now : KeptReceiver) → AreBased now.from (next_reports now) }
+    ensures times { (steps : List Step) → NumbersRise 0 (takes steps) → TimesRise 0 (takes steps)
+        → all_told (reported steps) ≡ times_of (takes steps) 0 (length (statuses_in (reported steps))) }
+    ensures count { (steps : List Step) → NumbersRise 0 (takes steps) → TimesRise 0 (takes steps)
+        → length (statuses_in (reported steps)) ≡ next_from 0 (listed_takes steps) }
+    ensures bases { (steps : List Step) → NumbersRise 0 (takes steps) → TimesRise 0 (takes steps) → AreBased 0 (reported steps) }
 {}
 
 /// Numbers are divided into reports in one way: a number goes on in the report before it wherever it can.

@@ -6,6 +6,7 @@ ghost use Rattle.twcc_report.specs.Spelling.{view};
 ghost use Rattle.link_path.specs.Division.{Told};
 ghost use Rattle.link_path.specs.Building.{IsBuilt};
 ghost use Rattle.link_path.specs.Receiver.{IsNext, IsWritable, NumbersRise, heard, next_from, next_reports, told_all};
+ghost use Rattle.link_path.specs.Taking.{Step, StandsFor, listed, reported, took};
 
 use crate::building::{Building, ReportList};
 use crate::link::Arrival;
@@ -68,7 +69,8 @@ fn put_all(
 impl Receiver {
     /// The receiver that took nothing. It takes no memory.
     pub fn new(alloc: Global) -> Self
-        ensures { result ≡ record { from = 0; last = 0; feedback = 0; taken = [] } }
+        ensures value { result ≡ record { from = 0; last = 0; feedback = 0; taken = [] } }
+        ensures stands { StandsFor result [] }
     {
         Receiver {
             from: 0,
@@ -82,6 +84,7 @@ impl Receiver {
     pub fn take(&mut self, arrival: &Arrival) -> Result<(), NoMemory>
         requires { IsNext self.old arrival.now }
         ensures state { OnOk result (self.new ≡ record self.old { taken = self.old.taken ++ arrival.now ∷ [] }) }
+        ensures stands { OnOk result ((steps : List Step) → StandsFor self.old steps → StandsFor self.new (steps ++ took arrival.now ∷ [])) }
         ensures err { OnErr result (self.new ≡ self.old) }
     {
         match self.taken.push(*arrival) {
@@ -102,6 +105,11 @@ impl Receiver {
         // Each has a spelling.
         ensures writable { IfOk result (λ l. All IsWritable (map view l.items)) }
         ensures state { OnOk result (self.new ≡ told_all self.old) }
+
+        // Of all that it took and all lists before: these are the next of its reports.
+        ensures reported { IfOk result (λ l. (steps : List Step) → StandsFor self.old steps
+            → reported (steps ++ listed ∷ []) ≡ reported steps ++ map view l.items) }
+        ensures stands { OnOk result ((steps : List Step) → StandsFor self.old steps → StandsFor self.new (steps ++ listed ∷ [])) }
         ensures err { OnErr result (self.new ≡ self.old) }
     {
         let mut building = Building::new(alloc, self.from, self.last, self.feedback);

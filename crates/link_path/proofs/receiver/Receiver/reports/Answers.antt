@@ -1,11 +1,13 @@
-use Rattle.std.proofs.Common.{◌≡◌, ◌∙◌, ap, sym, subst, map, [], All}
+use Rattle.std.proofs.Common.{◌≡◌, ◌∙◌, ap, sym, subst, map, [], All, List, ◌∷◌, ◌++◌}
 use Rattle.gcc_units.specs.Listed.{Listed}
-use Rattle.twcc_report.specs.Spelling.{view}
+use Rattle.twcc_report.specs.Spelling.{Feedback, view}
 use Rattle.twcc_report.specs.declared.report.Report.{Report}
 use Rattle.link_path.specs.Division.{runs_of, last_time}
 use Rattle.link_path.specs.Building.{IsAt}
 use Rattle.link_path.specs.Receiver.{KeptReceiver, IsWritable, heard, next_from, next_reports, told_before, told_all}
+use Rattle.link_path.specs.Taking.{StandsFor, listed, reported}
 use Rattle.link_path.proofs.Heard.{all-numbers, empty-by, kept-after}
+use Rattle.link_path.proofs.Lists.{list-is, stands-listed}
 use Rattle.link_path.proofs.Writable.{all-writable, last-kept}
 use Rattle.link_path.proofs.receiver.Receiver.reports.Goals as goal
 
@@ -42,3 +44,11 @@ invariant_of-self c =
     rw c.as_slice.ensures.value at (c.in_ok-end.ensures (told_before now) (heard now.from c.as_slice.result.now) (c.in_ok-next.ensures.built (told_before now) [] c.new-building.ensures)) in
     last-kept now.from now.last c.end.new.self.before c.in_ok-next.next now.taken c.clear.new.self.items c.self.invariant
     (done.before ∙ ap (last_time now.last) (all-numbers (heard now.from now.taken))) c.clear.ensures.items
+
+pub returns-clause-reported : goal.returns-clause-reported
+returns-clause-reported c steps h = list-is c.args.self.now steps h ∙ ap (λ (fs : List Feedback). reported steps ++ fs) (sym (returns-clause-value c))
+
+pub returns-clause-stands : goal.returns-clause-stands
+returns-clause-stands c steps h =
+    let P : KeptReceiver → Type 0 = λ k. StandsFor k (steps ++ listed ∷ []) in
+    subst P (sym (returns-clause-state c)) (stands-listed c.args.self.now steps h)

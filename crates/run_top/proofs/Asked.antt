@@ -200,14 +200,18 @@ settings_are options s e =
     let queues = number_within LEAST_QUEUE GREATEST_QUEUE (number_for name.Queue options) queue.0 queue.1 in
     let delays = number_within 0 LONGEST_DELAY (number_for name.Delay options) delay.0 delay.1 in
     subst (λ (l : LinkSettings). (number_for name.Rate options ≡ Some l.rate) × (number_for name.Queue options ≡ Some l.queue) × (number_for name.Delay options ≡ Some l.delay) × IsLink l)
-    (some_is (link_settings rate.0 queue.0 delay.0) s delay.2)
-    (rates.0, queues.0, delays.0, record {
-      least_rate = rates.1.0;
-      greatest_rate = rates.1.1;
-      least_queue = queues.1.0;
-      greatest_queue = queues.1.1;
-      longest_delay = delays.1.1;
-    })
+    (some_is (link_settings rate.0 queue.0 delay.0) s delay.2) (
+      rates.0,
+      queues.0,
+      delays.0,
+      record {
+        least_rate = rates.1.0;
+        greatest_rate = rates.1.1;
+        least_queue = queues.1.0;
+        greatest_queue = queues.1.1;
+        longest_delay = delays.1.1;
+      },
+    )
 
 loop_is : (word : Word) (words : Words) (c : Command) → word.items ≡ codes "loop" → loop_at words ≡ Some c → Asks (texts (word ∷ words)) c
 unfolding loop_at

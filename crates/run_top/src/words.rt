@@ -88,7 +88,11 @@ fn settings(options: &[Given]) -> Option<LinkSettings>
     ensures within { IfSome result IsLink }
 {
     let rate = within(LEAST_RATE, GREATEST_RATE, number_for(options, Name::Rate)?)?;
-    let queue = within(LEAST_QUEUE, GREATEST_QUEUE, number_for(options, Name::Queue)?)?;
+    let queue = within(
+        LEAST_QUEUE,
+        GREATEST_QUEUE,
+        number_for(options, Name::Queue)?,
+    )?;
     let delay = within(0, LONGEST_DELAY, number_for(options, Name::Delay)?)?;
     Some(LinkSettings { rate, queue, delay })
 }
@@ -100,7 +104,11 @@ fn closed_loop(words: &[Bytes]) -> Option<Command>
 {
     let options = read_options::<4>(words)?;
     let settings = settings(&options)?;
-    let millis = within(1, u64::from(MOST_MILLIS), number_for(&options, Name::Millis)?)?;
+    let millis = within(
+        1,
+        u64::from(MOST_MILLIS),
+        number_for(&options, Name::Millis)?,
+    )?;
     Some(Command::Loop {
         settings,
         millis: millis as u32,

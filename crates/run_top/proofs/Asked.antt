@@ -7,14 +7,18 @@ use Rattle.std.proofs.lemmas.Bool.{and_parts, and_from, leb-true, le-leb, false_
 use Rattle.std.proofs.lemmas.List.{take-append-drop, append-nil, take_at, drop_at}
 use Rattle.std.proofs.lemmas.Slice.Eq.{bytes_eq-Decides}
 use Rattle.gcc_units.specs.Listed.{Listed}
-use Rattle.gcc_units.specs.declared.limits.TheConstants.{MOST_ACTORS, MOST_LINES}
+use Rattle.gcc_units.specs.declared.limits.TheConstants.{MOST_ACTORS, MOST_LINES, LEAST_RATE, GREATEST_RATE}
 use Rattle.call_trace.specs.Fields.{number_of}
+use Rattle.link_path.specs.declared.TheConstants.{LEAST_QUEUE, GREATEST_QUEUE, LONGEST_DELAY}
+use Rattle.link_path.specs.declared.link.LinkSettings.{LinkSettings}
+use Rattle.link_path.specs.KeptLink.{IsLink}
+use Rattle.link_loop.specs.declared.TheConstants.{MOST_MILLIS}
 use Rattle.run_top.specs.declared.words.Command.{Command}
 use Rattle.run_top.specs.declared.words.Command.TheVariants as command
 use Rattle.run_top.specs.declared.options.Name.{Name}
 use Rattle.run_top.specs.declared.options.Name.TheVariants as name
 use Rattle.run_top.specs.declared.options.Given.{Given}
-use Rattle.run_top.specs.Words.{◌>>=◌, is_text, name_text, given, stripped, in_two, in_one, option_of, or_else, names, Taken, option_among, option_at, options_at, number_for, within, alone, make_at, demo_at, command_of, IsFromTo}
+use Rattle.run_top.specs.Words.{◌>>=◌, is_text, name_text, given, stripped, in_two, in_one, option_of, or_else, names, Taken, option_among, option_at, options_at, number_for, within, alone, make_at, demo_at, link_settings, settings_in, loop_at, command_of, IsFromTo}
 use Rattle.run_top.specs.Asking.{texts, IsOption, AreOptions, HaveOptions, Asks}
 use Rattle.run_top.proofs.Decimals.{number_is, is_number}
 use Rattle.run_top.proofs.InOrder.{cond_some, name_is_same, as_many, AreApart, AreFound, find_all, in_order}
@@ -36,11 +40,17 @@ make_options seed calls actors = given name.Seed seed ∷ given name.Calls calls
 abbrev demo_options : ℕ → ℕ → List Given
 demo_options seed calls = given name.Seed seed ∷ given name.Calls calls ∷ []
 
+abbrev loop_options : LinkSettings → ℕ → List Given
+loop_options s millis = given name.Rate s.rate ∷ given name.Queue s.queue ∷ given name.Delay s.delay ∷ given name.Millis millis ∷ []
+
 make_apart : (seed calls actors : ℕ) → AreApart (make_options seed calls actors)
 make_apart seed calls actors = ((refl, (refl, tt)), ((refl, tt), (tt, tt)))
 
 demo_apart : (seed calls : ℕ) → AreApart (demo_options seed calls)
 demo_apart seed calls = ((refl, tt), (tt, tt))
+
+loop_apart : (s : LinkSettings) (millis : ℕ) → AreApart (loop_options s millis)
+loop_apart s millis = ((refl, (refl, (refl, tt))), ((refl, (refl, tt)), ((refl, tt), (tt, tt))))
 
 then_some : {A B : Type 0} (o : Option A) (f : A → Option B) (y : B) → (o >>= f) ≡ Some y → (x : A) × (o ≡ Some x) × (f x ≡ Some y)
 then_some None f y e = absurd cc
@@ -179,6 +189,42 @@ demo_is word words c titled e =
     let read = have (demo_options seed.0 calls.0) words options.0 (demo_apart seed.0 calls.0) options.1 (seed.1, (few.0, tt)) in
     subst (Asks (texts (word ∷ words))) (some_is _ c calls.2) (texts words, ap (λ t. t ∷ texts words) titled, read, few.1)
 
+-- the settings that were read, and that a link may have
+settings_are : (options : List Given) (s : LinkSettings) → settings_in options ≡ Some s
+    → (number_for name.Rate options ≡ Some s.rate) × (number_for name.Queue options ≡ Some s.queue) × (number_for name.Delay options ≡ Some s.delay) × IsLink s
+settings_are options s e =
+    let rate = then_some (number_for name.Rate options >>= within LEAST_RATE GREATEST_RATE) _ s e in
+    let queue = then_some (number_for name.Queue options >>= within LEAST_QUEUE GREATEST_QUEUE) _ s rate.2 in
+    let delay = then_some (number_for name.Delay options >>= within 0 LONGEST_DELAY) _ s queue.2 in
+    let rates = number_within LEAST_RATE GREATEST_RATE (number_for name.Rate options) rate.0 rate.1 in
+    let queues = number_within LEAST_QUEUE GREATEST_QUEUE (number_for name.Queue options) queue.0 queue.1 in
+    let delays = number_within 0 LONGEST_DELAY (number_for name.Delay options) delay.0 delay.1 in
+    subst (λ (l : LinkSettings). (number_for name.Rate options ≡ Some l.rate) × (number_for name.Queue options ≡ Some l.queue) × (number_for name.Delay options ≡ Some l.delay) × IsLink l)
+    (some_is (link_settings rate.0 queue.0 delay.0) s delay.2) (
+      rates.0,
+      queues.0,
+      delays.0,
+      record {
+        least_rate = rates.1.0;
+        greatest_rate = rates.1.1;
+        least_queue = queues.1.0;
+        greatest_queue = queues.1.1;
+        longest_delay = delays.1.1;
+      },
+    )
+
+loop_is : (word : Word) (words : Words) (c : Command) → word.items ≡ codes "loop" → loop_at words ≡ Some c → Asks (texts (word ∷ words)) c
+unfolding loop_at
+loop_is word words c titled e =
+    let options = then_some (options_at 4 words) _ c e in
+    let settings = then_some (settings_in options.0) _ c options.2 in
+    let millis = then_some (number_for name.Millis options.0 >>= within 1 MOST_MILLIS) _ c settings.2 in
+    let are = settings_are options.0 settings.0 settings.1 in
+    let few = number_within 1 MOST_MILLIS (number_for name.Millis options.0) millis.0 millis.1 in
+    let read = have (loop_options settings.0 millis.0) words options.0 (loop_apart settings.0 millis.0) options.1 (are.0, (are.1, (are.2, (few.0, tt)))) in
+    subst (Asks (texts (word ∷ words))) (some_is _ c millis.2)
+    (texts words, ap (λ t. t ∷ texts words) titled, read, are.3, few.1)
+
 titled : (word : Word) (title : List ℕ) → is_text word title ≡ true → word.items ≡ title
 titled word title e = (bytes_eq-Decides word.items title).0 e
 
@@ -196,9 +242,12 @@ asks (word ∷ words) c e =
             | inl a ↦ alone_asks command.Compare (codes "compare") word words c (titled word (codes "compare") a.0) a.1 refl
             | inr k ↦ elim (cond_some (is_text word (codes "make")) (make_at words) _ c k.1) [
               | inl a ↦ make_is word words c (titled word (codes "make") a.0) a.1
-              | inr g ↦ elim (cond_some (is_text word (codes "demo")) (demo_at words) None c g.1) [
+              | inr g ↦ elim (cond_some (is_text word (codes "demo")) (demo_at words) _ c g.1) [
                 | inl a ↦ demo_is word words c (titled word (codes "demo") a.0) a.1
-                | inr h ↦ absurd (let no : None ≡ Some c = h.1 in cc)
+                | inr h ↦ elim (cond_some (is_text word (codes "loop")) (loop_at words) None c h.1) [
+                  | inl a ↦ loop_is word words c (titled word (codes "loop") a.0) a.1
+                  | inr l ↦ absurd (let no : None ≡ Some c = l.1 in cc)
+                ]
               ]
             ]
           ]
@@ -338,6 +387,20 @@ demo_read words seed calls has few =
     let calls_in : (number_for name.Calls options >>= within 1 MOST_LINES) ≡ Some calls = within_gives 1 MOST_LINES calls (number_for name.Calls options) calls_is few in
     rw (read, seed_is, calls_in)
 
+loop_read : (words : Words) (s : LinkSettings) (millis : ℕ) → HaveOptions (texts words) (loop_options s millis)
+    → IsLink s → IsFromTo 1 MOST_MILLIS millis → loop_at words ≡ Some (command.Loop s millis)
+unfolding loop_at
+loop_read words s millis has link few =
+    let (options, read, (rate_is, (queue_is, (delay_is, (millis_is, _))))) = had (loop_options s millis) words (loop_apart s millis) has in
+    let rate_in : (number_for name.Rate options >>= within LEAST_RATE GREATEST_RATE) ≡ Some s.rate =
+    within_gives LEAST_RATE GREATEST_RATE s.rate (number_for name.Rate options) rate_is (link.least_rate, link.greatest_rate) in
+    let queue_in : (number_for name.Queue options >>= within LEAST_QUEUE GREATEST_QUEUE) ≡ Some s.queue =
+    within_gives LEAST_QUEUE GREATEST_QUEUE s.queue (number_for name.Queue options) queue_is (link.least_queue, link.greatest_queue) in
+    let delay_in : (number_for name.Delay options >>= within 0 LONGEST_DELAY) ≡ Some s.delay =
+    within_gives 0 LONGEST_DELAY s.delay (number_for name.Delay options) delay_is (omega arith, link.longest_delay) in
+    let millis_in : (number_for name.Millis options >>= within 1 MOST_MILLIS) ≡ Some millis = within_gives 1 MOST_MILLIS millis (number_for name.Millis options) millis_is few in
+    rw (read, rate_in, queue_in, delay_in, millis_in)
+
 -- a word of these bytes, and words behind it
 abbrev AreTitled : Words → List ℕ → List (List ℕ) → Type 0
 AreTitled words title rest = (spare : ℕ) × (behind : Words) × (words ≡ word_of title spare ∷ behind) × (texts behind ≡ rest)
@@ -371,3 +434,7 @@ reads words (command.Demo seed calls) is =
     let at = are_titled words (codes "demo") is.0 is.1 in
     ap command_of at.2
     ∙ demo_read at.1 seed calls (subst (λ ts. HaveOptions ts (demo_options seed calls)) (sym at.3) is.2) is.3
+reads words (command.Loop settings millis) is =
+    let at = are_titled words (codes "loop") is.0 is.1 in
+    ap command_of at.2
+    ∙ loop_read at.1 settings millis (subst (λ ts. HaveOptions ts (loop_options settings millis)) (sym at.3) is.2) is.3 is.4

@@ -14,4 +14,5 @@ pub mod Decimals
 pub mod Taking
 pub mod InOrder
 pub mod Asked
+pub mod Reported
 pub mod OwnLines

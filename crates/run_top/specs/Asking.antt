@@ -3,6 +3,8 @@ use Rattle.std.specs.Prelude.{◌≡◌, ◌⊎◌, ℕ, ◌<◌, ◌^◌, List,
 use Rattle.std.specs.Str.Parse.{IsNumeral, digits_value}
 use Rattle.gcc_units.specs.Listed.{Listed}
 use Rattle.gcc_units.specs.declared.limits.TheConstants.{MOST_ACTORS, MOST_LINES}
+use Rattle.link_path.specs.KeptLink.{IsLink}
+use Rattle.link_loop.specs.declared.TheConstants.{MOST_MILLIS}
 use Rattle.run_top.specs.declared.words.Command.{Command}
 use Rattle.run_top.specs.declared.words.Command.TheVariants as command
 use Rattle.run_top.specs.declared.options.Name.TheVariants as name
@@ -55,3 +57,7 @@ Asks words (command.Make seed calls actors) =
 Asks words (command.Demo seed calls) =
     (rest : List (List ℕ)) × (words ≡ codes "demo" ∷ rest)
     × HaveOptions rest (given name.Seed seed ∷ given name.Calls calls ∷ []) × IsFromTo 1 MOST_LINES calls
+Asks words (command.Loop settings millis) =
+    (rest : List (List ℕ)) × (words ≡ codes "loop" ∷ rest)
+    × HaveOptions rest (given name.Rate settings.rate ∷ given name.Queue settings.queue ∷ given name.Delay settings.delay ∷ given name.Millis millis ∷ [])
+    × IsLink settings × IsFromTo 1 MOST_MILLIS millis

@@ -14,3 +14,4 @@ pub mod Check
 pub mod Totals
 pub mod Told
 pub mod Summary
+pub mod Looped

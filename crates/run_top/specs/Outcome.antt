@@ -10,6 +10,7 @@ use Rattle.call_trace.specs.Reading.{fault, counted_at}
 use Rattle.call_trace.specs.Ordered.{ordered}
 use Rattle.call_trace.specs.Written.{trace_text}
 use Rattle.call_trace.specs.Making.{made}
+use Rattle.link_loop.specs.Looping.{looping}
 use Rattle.reply_text.specs.Legal.{IsLegalText}
 use Rattle.reply_text.specs.declared.check.Verdict.{Verdict}
 use Rattle.run_top.specs.declared.status.Status.{Status}
@@ -20,6 +21,7 @@ use Rattle.run_top.specs.Check.{IsVerdictOn, verdict_text, ended_by}
 use Rattle.run_top.specs.Replay.{input, replayed}
 use Rattle.run_top.specs.Compared.{comparison}
 use Rattle.run_top.specs.Summary.{summary}
+use Rattle.run_top.specs.Looped.{loop_text}
 
 -- ---- what is read
 
@@ -35,6 +37,7 @@ IfTold command.Check left P = IfSome left P
 IfTold command.Compare left P = IfSome left P
 IfTold (command.Make seed calls actors) left P = P []
 IfTold (command.Demo seed calls) left P = P []
+IfTold (command.Loop settings millis) left P = P []
 
 -- the source was read to its end; by a command that reads nothing it was left as it is
 abbrev pub IsReadUp : Command → Option (List ℕ) → Option (List ℕ) → Type 0
@@ -44,6 +47,7 @@ IsReadUp command.Check before now = IfSome before (λ bytes. now ≡ Some [])
 IsReadUp command.Compare before now = IfSome before (λ bytes. now ≡ Some [])
 IsReadUp (command.Make seed calls actors) before now = now ≡ before
 IsReadUp (command.Demo seed calls) before now = now ≡ before
+IsReadUp (command.Loop settings millis) before now = now ≡ before
 
 -- ---- what is written
 
@@ -66,6 +70,8 @@ Writes command.Compare bytes ended text =
 Writes (command.Make seed calls actors) bytes ended text = (ended ≡ status.Done) × (text ≡ trace_text (made seed calls actors))
 -- the summary of the made trace of one actor, replayed
 Writes (command.Demo seed calls) bytes ended text = (ended ≡ status.Done) × (text ≡ summary (ordered (made seed calls 1).lines))
+-- what the closed loop over the link comes to
+Writes (command.Loop settings millis) bytes ended text = (ended ≡ status.Done) × (text ≡ loop_text settings (looping settings millis))
 
 -- that text was written, whole
 abbrev pub Wrote : Command → List ℕ → Status → Option (List ℕ) → Option (List ℕ) → Type 0
@@ -95,6 +101,7 @@ MayDiffer command.Race = ⊥
 MayDiffer command.Compare = ⊥
 MayDiffer (command.Make seed calls actors) = ⊥
 MayDiffer (command.Demo seed calls) = ⊥
+MayDiffer (command.Loop settings millis) = ⊥
 
 -- nothing was written where the words, the reading, the trace or memory stopped the run
 abbrev pub IsSilent : Status → Option (List ℕ) → Option (List ℕ) → Type 0
@@ -114,6 +121,7 @@ IsFaultOf command.Check bytes f = front_input bytes ≡ Err f
 IsFaultOf command.Compare bytes f = input bytes ≡ Err f
 IsFaultOf (command.Make seed calls actors) bytes f = ⊥
 IsFaultOf (command.Demo seed calls) bytes f = ⊥
+IsFaultOf (command.Loop settings millis) bytes f = ⊥
 
 -- the fault that is named is that of the bytes
 abbrev pub NamesFault : Command → Status → List ℕ → Type 0

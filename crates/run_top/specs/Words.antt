@@ -3,8 +3,12 @@ use Rattle.std.specs.Prelude.{ℕ, ◌≤◌, ◌&&◌, nat_le, nat_eq, if◌the
 use Rattle.std.specs.Str.{bytes_eq}
 use Rattle.std.specs.Cmp.Lexicographic.{pointwise}
 use Rattle.gcc_units.specs.Listed.{Listed}
-use Rattle.gcc_units.specs.declared.limits.TheConstants.{MOST_ACTORS, MOST_LINES}
+use Rattle.gcc_units.specs.declared.limits.TheConstants.{MOST_ACTORS, MOST_LINES, LEAST_RATE, GREATEST_RATE}
 use Rattle.call_trace.specs.Fields.{number_of}
+use Rattle.link_path.specs.declared.TheConstants.{LEAST_QUEUE, GREATEST_QUEUE, LONGEST_DELAY}
+use Rattle.link_path.specs.declared.link.LinkSettings.{LinkSettings}
+use Rattle.link_path.specs.KeptLink.{IsLink}
+use Rattle.link_loop.specs.declared.TheConstants.{MOST_MILLIS}
 use Rattle.run_top.specs.declared.words.Command.{Command}
 use Rattle.run_top.specs.declared.words.Command.TheVariants as command
 use Rattle.run_top.specs.declared.options.Name.{Name}
@@ -128,6 +132,25 @@ demo_at words = do
   calls ← number_for name.Calls options >>= within 1 MOST_LINES
   Some (command.Demo seed calls)
 
+abbrev pub link_settings : ℕ → ℕ → ℕ → LinkSettings
+link_settings rate queue delay = record { rate = rate; queue = queue; delay = delay }
+
+-- the settings of a link among options
+abbrev pub settings_in : List Given → Option LinkSettings
+settings_in options = do
+  rate ← number_for name.Rate options >>= within LEAST_RATE GREATEST_RATE
+  queue ← number_for name.Queue options >>= within LEAST_QUEUE GREATEST_QUEUE
+  delay ← number_for name.Delay options >>= within 0 LONGEST_DELAY
+  Some (link_settings rate queue delay)
+
+-- the options of `loop`, each once
+unfoldable pub loop_at : List (Listed ℕ) → Option Command
+loop_at words = do
+  options ← options_at 4 words
+  settings ← settings_in options
+  millis ← number_for name.Millis options >>= within 1 MOST_MILLIS
+  Some (command.Loop settings millis)
+
 -- what words ask for, if they are accepted
 unfoldable pub command_of : List (Listed ℕ) → Option Command
 command_of [] = None
@@ -138,6 +161,7 @@ command_of (word ∷ words) =
     else if is_text word (codes "compare") then alone command.Compare words
     else if is_text word (codes "make") then make_at words
     else if is_text word (codes "demo") then demo_at words
+    else if is_text word (codes "loop") then loop_at words
     else None
 
 -- a number from the least to the most
@@ -152,6 +176,7 @@ IsWithin command.Check = Unit {0}
 IsWithin command.Compare = Unit {0}
 IsWithin (command.Make seed calls actors) = IsFromTo 1 MOST_LINES calls × IsFromTo 1 MOST_ACTORS actors
 IsWithin (command.Demo seed calls) = IsFromTo 1 MOST_LINES calls
+IsWithin (command.Loop settings millis) = IsLink settings × IsFromTo 1 MOST_MILLIS millis
 
 -- a race waits
 abbrev pub unless_race : Command → Option Command
@@ -161,6 +186,7 @@ unless_race command.Check = Some command.Check
 unless_race command.Compare = Some command.Compare
 unless_race (command.Make seed calls actors) = Some (command.Make seed calls actors)
 unless_race (command.Demo seed calls) = Some (command.Demo seed calls)
+unless_race (command.Loop settings millis) = Some (command.Loop settings millis)
 
 -- the command that is served without waiting
 abbrev pub plain_command_of : List (Listed ℕ) → Option Command

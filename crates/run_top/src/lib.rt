@@ -9,6 +9,7 @@ mod beside;
 mod checking;
 mod comparing;
 mod laws;
+mod looping;
 mod making;
 mod options;
 mod racing;

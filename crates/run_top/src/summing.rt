@@ -109,7 +109,7 @@ fn media_text(alloc: Global, sender: &Sender) -> Result<String, NoMemory>
 }
 
 /// The rates after the last entry.
-fn rates_text(alloc: Global, sender: &Sender) -> Result<String, NoMemory>
+pub fn rates_text(alloc: Global, sender: &Sender) -> Result<String, NoMemory>
     ensures { IfOk result (λ s. string_bytes s ≡ rates_line (target sender.now) (estimate (est sender.now)).delay (estimate (est sender.now)).loss) }
 {
     let target = sender.target();

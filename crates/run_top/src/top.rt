@@ -10,6 +10,7 @@ ghost use Rattle.run_top.specs.Outcome.{IfTold, IsReadUp, IsEnded, IsSilent, IsA
 
 use crate::checking::run_check;
 use crate::comparing::run_compare;
+use crate::looping::run_closed_loop;
 use crate::making::run_make;
 use crate::racing::run_race;
 use crate::replay::run_replay;
@@ -28,8 +29,9 @@ use std::thread::Threads;
 /// and writes the verdict on the history: `legal` or `differs ENTRY`. `compare` reads a trace and
 /// writes what the arrival filter and the trendline say of each sample of its calls. `make` with `--seed`,
 /// `--calls` and `--actors` reads nothing and writes a made trace; `demo` with `--seed` and
-/// `--calls` writes a summary of such a trace of one actor, replayed. All other words are `Usage`,
-/// `race` too.
+/// `--calls` writes a summary of such a trace of one actor, replayed; `loop` with `--rate`, `--queue`,
+/// `--delay` and `--millis` writes what a closed loop over such a link comes to. All other words are
+/// `Usage`, `race` too.
 pub fn run_plain<S: Source, K: Sink>(
     alloc: Global,
     words: &WordList,
@@ -71,6 +73,7 @@ pub fn run_plain<S: Source, K: Sink>(
             },
         ) => run_make(alloc, seed, calls, actors, sink),
         Some(Command::Demo { seed, calls }) => run_demo(alloc, seed, calls, sink),
+        Some(Command::Loop { settings, millis }) => run_closed_loop(alloc, settings, millis, sink),
         Some(Command::Race) | None => Status::Usage,
     }
 }

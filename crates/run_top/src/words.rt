@@ -1,10 +1,13 @@
 //! The words of a command line, and what they ask for.
 
 ghost use Rattle.std.specs.Prelude.{◌≡◌, IfSome};
-ghost use Rattle.run_top.specs.Words.{is_text, alone, make_at, demo_at, command_of, IsWithin};
+ghost use Rattle.link_path.specs.KeptLink.{IsLink};
+ghost use Rattle.run_top.specs.Words.{is_text, alone, make_at, demo_at, settings_in, loop_at, command_of, IsWithin};
 
-use crate::options::{Name, number_for, read_options, within};
-use gcc_units::{Bytes, MOST_ACTORS, MOST_LINES, Sequence};
+use crate::options::{Given, Name, number_for, read_options, within};
+use gcc_units::{Bytes, GREATEST_RATE, LEAST_RATE, MOST_ACTORS, MOST_LINES, Sequence};
+use link_loop::MOST_MILLIS;
+use link_path::{GREATEST_QUEUE, LEAST_QUEUE, LONGEST_DELAY, LinkSettings};
 
 /// The words of a command line, without the program's name.
 pub type WordList = Sequence<Bytes>;
@@ -24,6 +27,8 @@ pub enum Command {
     Make { seed: u64, calls: u32, actors: u32 },
     /// `demo` with its two options
     Demo { seed: u64, calls: u32 },
+    /// `loop` with its four options, three of them the link's settings
+    Loop { settings: LinkSettings, millis: u32 },
 }
 
 fn is_word(word: &Bytes, text: &[u8]) -> bool
@@ -77,6 +82,39 @@ fn demo(words: &[Bytes]) -> Option<Command>
     })
 }
 
+/// The settings of a link, by three options.
+fn settings(options: &[Given]) -> Option<LinkSettings>
+    ensures asked { result ≡ settings_in options.now }
+    ensures within { IfSome result IsLink }
+{
+    let rate = within(LEAST_RATE, GREATEST_RATE, number_for(options, Name::Rate)?)?;
+    let queue = within(
+        LEAST_QUEUE,
+        GREATEST_QUEUE,
+        number_for(options, Name::Queue)?,
+    )?;
+    let delay = within(0, LONGEST_DELAY, number_for(options, Name::Delay)?)?;
+    Some(LinkSettings { rate, queue, delay })
+}
+
+#[tactic(auto, unfolding(crate::specs::Words::loop_at))]
+fn closed_loop(words: &[Bytes]) -> Option<Command>
+    ensures asked { result ≡ loop_at words.now }
+    ensures within { IfSome result IsWithin }
+{
+    let options = read_options::<4>(words)?;
+    let settings = settings(&options)?;
+    let millis = within(
+        1,
+        u64::from(MOST_MILLIS),
+        number_for(&options, Name::Millis)?,
+    )?;
+    Some(Command::Loop {
+        settings,
+        millis: millis as u32,
+    })
+}
+
 /// What the words ask for, where they are accepted.
 #[tactic(auto, unfolding(crate::specs::Words::command_of))]
 pub fn read_words(words: &WordList) -> Option<Command>
@@ -98,6 +136,8 @@ pub fn read_words(words: &WordList) -> Option<Command>
                 make(rest)
             } else if is_word(word, b"demo") {
                 demo(rest)
+            } else if is_word(word, b"loop") {
+                closed_loop(rest)
             } else {
                 None
             }

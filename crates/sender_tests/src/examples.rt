@@ -45,7 +45,7 @@ fn one_call(alloc: Global) -> Result<(u32, Rate), Fail> {
     for tick in 1..=4 {
         let at = 5_000 * tick;
         if let Ok(answer) = sender.apply(alloc, 0, Call::Pace { at }) {
-            left += sent_to_socket(&answer);
+            left = sent_to_socket(&answer).saturating_add(left);
         }
     }
     let bytes = bytes(alloc, &REPORT)?;

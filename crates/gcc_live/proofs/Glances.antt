@@ -14,19 +14,19 @@ use Rattle.run_top.proofs.Serving.{flat_map-range}
 -- ---- one glance more
 
 own-one : (a : ℕ) (x : Seen) → (x.actor == a) ≡ true → of_actor (x ∷ []) a ≡ x ∷ []
-own-one a x yes = ap (λ b. cond b (x ∷ []) []) yes
+own-one a x theirs = ap (λ b. cond b (x ∷ []) []) theirs
 
 own-none : (a : ℕ) (x : Seen) → (x.actor == a) ≡ false → of_actor (x ∷ []) a ≡ []
-own-none a x no = ap (λ b. cond b (x ∷ []) []) no
+own-none a x others = ap (λ b. cond b (x ∷ []) []) others
 
 own-next : (xs : List Seen) (k a : ℕ) (x : Seen) → slice_get xs k ≡ Some x → of_actor (take (k + 1) xs) a ≡ of_actor (take k xs) a ++ of_actor (x ∷ []) a
 own-next xs k a x is = ap (λ ys. of_actor ys a) (take-next xs k x is) ∙ filter-append (λ (g : Seen). g.actor == a) (take k xs) (x ∷ [])
 
 pub own-yes : (xs : List Seen) (k a : ℕ) (x : Seen) → slice_get xs k ≡ Some x → (x.actor == a) ≡ true → of_actor (take (k + 1) xs) a ≡ of_actor (take k xs) a ++ x ∷ []
-own-yes xs k a x is yes = own-next xs k a x is ∙ ap (λ ys. of_actor (take k xs) a ++ ys) (own-one a x yes)
+own-yes xs k a x is theirs = own-next xs k a x is ∙ ap (λ ys. of_actor (take k xs) a ++ ys) (own-one a x theirs)
 
 pub own-no : (xs : List Seen) (k a : ℕ) (x : Seen) → slice_get xs k ≡ Some x → (x.actor == a) ≡ false → of_actor (take (k + 1) xs) a ≡ of_actor (take k xs) a
-own-no xs k a x is no = own-next xs k a x is ∙ (ap (λ ys. of_actor (take k xs) a ++ ys) (own-none a x no) ∙ append-nil (of_actor (take k xs) a))
+own-no xs k a x is others = own-next xs k a x is ∙ (ap (λ ys. of_actor (take k xs) a ++ ys) (own-none a x others) ∙ append-nil (of_actor (take k xs) a))
 
 -- ---- how many are an actor's
 
@@ -90,8 +90,8 @@ lines-append before (x ∷ xs) ys =
 -- an actor's next glance has as number how many of its own were before it
 pub lines-own : (before own : List Seen) (a n : ℕ) (x : Seen) → glances_by a before ≡ 0 → glances_by a own ≡ n → (x.actor == a) ≡ true
     → glance_lines before (own ++ x ∷ []) ≡ glance_lines before own ++ glance_line n x
-lines-own before own a n x none count yes =
-    let same : x.actor ≡ a = eqb-true x.actor a yes in
+lines-own before own a n x none count theirs =
+    let same : x.actor ≡ a = eqb-true x.actor a theirs in
     let number : glances_by x.actor (before ++ own) ≡ n = ap (λ k. glances_by k (before ++ own)) same ∙ (by-append a before own ∙ omega (arith, none, count)) in
     glance_lines-push before own x ∙ ap (λ k. glance_lines before own ++ glance_line k x) number
 
@@ -106,14 +106,14 @@ lines-actor xs n =
 pub told-own : (first text more : List ℕ) (before xs : List Seen) (k a n : ℕ) (x : Seen) → slice_get xs k ≡ Some x → (x.actor == a) ≡ true → n ≡ length (of_actor (take k xs) a)
     → text ≡ first ++ glance_lines before (of_actor (take k xs) a) → glances_by a before ≡ 0 → more ≡ text ++ glance_line n x
     → more ≡ first ++ glance_lines before (of_actor (take (k + 1) xs) a)
-told-own first text more before xs k a n x is yes count texts none grown =
+told-own first text more before xs k a n x is theirs count texts none grown =
     let own : List Seen = of_actor (take k xs) a in
     grown
     ∙ (ap (λ t. t ++ glance_line n x) texts
     ∙ (append_assoc first (glance_lines before own) (glance_line n x)
-    ∙ ap (λ ys. first ++ ys) (sym (ap (glance_lines before) (own-yes xs k a x is yes) ∙ lines-own before own a n x none (by-own a (take k xs) ∙ sym count) yes))))
+    ∙ ap (λ ys. first ++ ys) (sym (ap (glance_lines before) (own-yes xs k a x is theirs) ∙ lines-own before own a n x none (by-own a (take k xs) ∙ sym count) theirs))))
 
 pub count-own : (xs : List Seen) (k a n : ℕ) (x : Seen) → slice_get xs k ≡ Some x → (x.actor == a) ≡ true → n ≡ length (of_actor (take k xs) a)
     → n + 1 ≡ length (of_actor (take (k + 1) xs) a)
-count-own xs k a n x is yes count =
-    ap (λ m. m + 1) count ∙ sym (ap length (own-yes xs k a x is yes) ∙ length-append (of_actor (take k xs) a) (x ∷ []))
+count-own xs k a n x is theirs count =
+    ap (λ m. m + 1) count ∙ sym (ap length (own-yes xs k a x is theirs) ∙ length-append (of_actor (take k xs) a) (x ∷ []))

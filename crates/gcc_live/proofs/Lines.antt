@@ -1,6 +1,6 @@
 -- One line more.
 use Rattle.std.proofs.Common.{◌≡◌, ℕ, ◌+◌, List, [], ◌∷◌, ◌++◌, length, codes, refl, sym, ◌∙◌, ap, subst, arith, append_assoc, length-append}
-use Rattle.std.specs.List.{flat_map, sum_by, range_with_len}
+use Rattle.std.specs.List.{flat_map, sum_by}
 use Rattle.std.specs.String.{string_bytes}
 use Rattle.std.proofs.lemmas.List.{append-nil}
 use Rattle.std.proofs.lemmas.List.Sums.{sum_by-append}
@@ -15,13 +15,13 @@ use Rattle.call_trace.specs.declared.trace.Line.{Line}
 use Rattle.call_trace.specs.declared.trace.Action.TheVariants.{Ask, Look}
 use Rattle.call_trace.specs.Ordered.{served_by, ordered, ordered-push, ordered-nil}
 use Rattle.reply_text.specs.declared.seen.Seen.{Seen}
-use Rattle.reply_text.specs.Text.{line_of, glance_lines, tail_line}
+use Rattle.reply_text.specs.Text.{line_of}
 use Rattle.live_sender.specs.Live.{Live, StandsFor}
-use Rattle.run_top.specs.Replay.{looked, seen_from, of_actor, replayed}
+use Rattle.run_top.specs.Replay.{looked, seen_from}
 use Rattle.run_top.proofs.Serving.{seen_from-push}
 use Rattle.gcc_live.specs.declared.telling.Told.{Told}
 use Rattle.gcc_live.specs.Summing.{size_of, bytes_of}
-use Rattle.gcc_live.specs.Telling.{AreTold, tail_with}
+use Rattle.gcc_live.specs.Telling.{AreTold}
 
 pub asked-more : (lines : List Line) (line : Line) (call : Call) (given : Reply) → line.action ≡ Ask call → given ≡ reply (ordered lines) call
     → ordered (lines ++ line ∷ []) ≡ ordered lines ++ entry line.actor call given ∷ []
@@ -91,37 +91,6 @@ told-look before told new lines line rate are looks rates texts calls glances =
           ∙ (ap (λ r. seen_from [] lines ++ seen (length (ordered lines)) r ∷ []) rates
           ∙ sym (seen_from-push [] lines line ∙ ap (λ a. seen_from [] lines ++ looked (ordered lines) line.actor a) looks))));
     }
-
-tail-is : (history : List Entry) → tail_with (length history) (length (sent history)) (target history) ≡ tail_line history
-tail-is history = sym (simp append_assoc)
-
--- the lines of the entries, those of the glances in rising order of actor, and the tail are the printed history
-pub told-all : (sender : Live) (told : Told) (lines : List Line) (actors packets rate : ℕ) (text all : List ℕ)
-    → AreTold sender told lines
-    → text ≡ string_bytes told.text ++ glance_lines [] (flat_map (of_actor told.glances.items) (range_with_len 0 actors))
-    → packets ≡ length (sent (ordered lines))
-    → rate ≡ target (ordered lines)
-    → all ≡ text ++ tail_with told.calls packets rate
-    → all ≡ replayed (record { actors = actors; lines = lines })
-told-all sender told lines actors packets rate text all are texts counts rates whole =
-    let title : List ℕ = codes "gcc-history 1\n" in
-    let history : List Entry = ordered lines in
-    let body : List ℕ = flat_map line_of history in
-    let looks : List ℕ = glance_lines [] (flat_map (of_actor (seen_from [] lines)) (range_with_len 0 actors)) in
-    let front : text ≡ (title ++ body) ++ looks =
-    texts
-    ∙ (ap (λ t. t ++ glance_lines [] (flat_map (of_actor told.glances.items) (range_with_len 0 actors))) are.text
-    ∙ ap (λ gs. (title ++ body) ++ glance_lines [] (flat_map (of_actor gs) (range_with_len 0 actors))) are.glances) in
-    let back : tail_with told.calls packets rate ≡ tail_line history =
-    ap (λ n. tail_with n packets rate) are.calls
-    ∙ (ap (λ n. tail_with (length history) n rate) counts
-    ∙ (ap (λ n. tail_with (length history) (length (sent history)) n) rates
-    ∙ tail-is history)) in
-    whole
-    ∙ (ap (λ t. t ++ tail_with told.calls packets rate) front
-    ∙ (ap (λ t. ((title ++ body) ++ looks) ++ t) back
-    ∙ (append_assoc (title ++ body) looks (tail_line history)
-    ∙ append_assoc title body (looks ++ tail_line history))))
 
 -- ---- bytes that left
 

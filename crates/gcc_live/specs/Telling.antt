@@ -1,7 +1,6 @@
 -- What is told of the lines of a trace that a live sender served.
-use Rattle.std.specs.Prelude.{◌≡◌, ℕ, List, [], ◌++◌, codes, length}
+use Rattle.std.specs.Prelude.{◌≡◌, List, [], ◌++◌, codes, length}
 use Rattle.std.specs.String.{string_bytes}
-use Rattle.std.specs.Fmt.{decimal}
 use Rattle.std.specs.List.{flat_map}
 use Rattle.live_sender.specs.Live.{Live, StandsFor}
 use Rattle.call_trace.specs.declared.trace.Line.{Line}
@@ -16,7 +15,3 @@ pub record AreTold (sender : Live) (told : Told) (lines : List Line) : Type 0 wh
   pub text : string_bytes told.text ≡ codes "gcc-history 1\n" ++ flat_map line_of (ordered lines)
   pub calls : told.calls ≡ length (ordered lines)
   pub glances : told.glances.items ≡ seen_from [] lines
-
--- `end <calls> <sent packets> <target>`
-abbrev pub tail_with : ℕ → ℕ → ℕ → List ℕ
-tail_with calls sent target = codes "end " ++ decimal calls ++ codes " " ++ decimal sent ++ codes " " ++ decimal target ++ codes "\n"

@@ -59,18 +59,26 @@ fn serve_line(alloc: Global, sender: &mut LiveSender, line: Line) -> Result<u128
     }
 }
 
-/// Serves the calls of a trace on a new sender, and answers the bytes that left.
-fn serve_all(alloc: Global, lines: LineList) -> Result<(LiveSender, u128), Stop>
+/// A sender that served a trace, and the bytes that left.
+#[derive(Drop)]
+struct Served {
+    sender: LiveSender,
+    bytes: u128,
+}
+
+/// Serves the calls of a trace on a new sender.
+fn serve_all(alloc: Global, lines: LineList) -> Result<Served, Stop>
     requires { length lines.items ≤ MOST_LINES }
-    ensures stands { IfOk result (λ r. StandsFor r.0 (ordered lines.items)) }
-    ensures bytes { IfOk result (λ r. r.1 ≡ bytes_of (ordered lines.items)) }
+    ensures stands { IfOk result (λ served. StandsFor served.sender (ordered lines.items)) }
+    ensures bytes { IfOk result (λ served. served.bytes ≡ bytes_of (ordered lines.items)) }
 {
     let mut sender = LiveSender::new(alloc)?;
     let mut bytes: u128 = 0;
     for line in lines.into_vec() {
-        bytes += serve_line(alloc, &mut sender, line)?;
+        let left = serve_line(alloc, &mut sender, line)?;
+        bytes += left;
     }
-    Ok((sender, bytes))
+    Ok(Served { sender, bytes })
 }
 
 /// Appends the line of a sender.
@@ -96,20 +104,21 @@ fn run_one(alloc: Global, text: &mut String, calls: u32, seed: u64) -> Result<Li
     ensures { OnOk result (string_bytes text.new ≡ string_bytes text.old ++ sum_line calls (ordered (made seed calls 1).lines)) }
 {
     let trace = make_trace(alloc, seed, calls, 1)?;
-    let (sender, bytes) = serve_all(alloc, trace.lines)?;
-    let packets = sender.counters().sent;
-    let target = sender.target();
-    push_sum(text, calls, packets, bytes, target)?;
-    Ok(sender)
+    let served = serve_all(alloc, trace.lines)?;
+    let packets = served.sender.counters().sent;
+    let target = served.sender.target();
+    push_sum(text, calls, packets, served.bytes, target)?;
+    Ok(served.sender)
 }
 
 /// Serves made traces on senders of their own, which all stay until the end, and tells for each how
-/// many packets and bytes left, and its target.
+/// many packets and bytes left, and its target. The calls are 1 to `MOST_LINES`, or it is `Usage`.
 pub fn run_made(alloc: Global, senders: u32, calls: u32, seed: u64) -> Result<String, Stop>
-    requires some { 1 ≤ calls }
-    requires few { calls ≤ MOST_LINES }
     ensures { IfOk result (λ text. string_bytes text ≡ lines_of senders calls seed) }
 {
+    if calls == 0 || calls > MOST_LINES {
+        return Err(Stop::Ended(Status::Usage));
+    }
     let mut text = String::new(alloc);
     let mut kept: Vec<LiveSender> = Vec::new(alloc);
     for k in 0..senders {

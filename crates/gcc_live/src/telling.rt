@@ -7,12 +7,12 @@ ghost use Rattle.call_trace.specs.declared.trace.Line.{Line};
 ghost use Rattle.reply_text.specs.declared.seen.Seen.{Seen};
 ghost use Rattle.reply_text.specs.Text.{glances_by, glance_lines};
 ghost use Rattle.run_top.specs.Replay.{of_actor, replayed};
-ghost use Rattle.gcc_live.specs.Telling.{AreTold, tail_with};
+ghost use Rattle.gcc_live.specs.Telling.{AreTold};
 
 use crate::serving::serve;
 use crate::stop::Stop;
 use call_trace::{Action, Line, LineList};
-use gcc_units::{MOST_LINES, NoMemory, Rate};
+use gcc_units::{MOST_LINES, NoMemory};
 use live_sender::LiveSender;
 use reply_text::{Seen, SeenList, push_glance, push_line};
 use run_top::Status;
@@ -115,13 +115,6 @@ fn push_actors(text: &mut String, glances: &[Seen], actors: u32) -> Result<(), N
     Ok(())
 }
 
-/// Appends the tail: how many calls and sent packets there were, and the target.
-fn push_tail(text: &mut String, calls: u32, sent: u64, target: Rate) -> Result<(), NoMemory>
-    ensures { OnOk result (string_bytes text.new ≡ string_bytes text.old ++ tail_with calls sent target) }
-{
-    Ok(write!(text, "end {calls} {sent} {target}\n")?)
-}
-
 /// The printed history of the lines that were served.
 pub fn finish(told: Told, actors: u32, sender: &LiveSender) -> Result<String, NoMemory>
     ensures { IfOk result (λ text. (lines : List Line) → AreTold sender.now told lines → string_bytes text ≡ replayed (record { actors = actors; lines = lines })) }
@@ -135,6 +128,6 @@ pub fn finish(told: Told, actors: u32, sender: &LiveSender) -> Result<String, No
     push_actors(&mut text, glances.as_slice(), actors)?;
     let sent = sender.counters().sent;
     let target = sender.target();
-    push_tail(&mut text, calls, sent, target)?;
+    write!(text, "end {calls} {sent} {target}\n")?;
     Ok(text)
 }

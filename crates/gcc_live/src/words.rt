@@ -53,16 +53,16 @@ fn made(senders: &[u8], calls: &[u8], seed: &[u8]) -> Option<Job> {
 fn asked(words: &[Vec<u8>]) -> Option<Job> {
     match words {
         [one] => {
-            if one.as_slice() == b"--against" {
+            if one.as_slice() == b"--against".as_slice() {
                 Some(Job::Against)
             } else {
                 None
             }
         }
         [first, senders, second, calls, third, seed] => {
-            if first.as_slice() == b"--senders"
-                && second.as_slice() == b"--calls"
-                && third.as_slice() == b"--seed" {
+            if first.as_slice() == b"--senders".as_slice()
+                && second.as_slice() == b"--calls".as_slice()
+                && third.as_slice() == b"--seed".as_slice() {
                 made(senders.as_slice(), calls.as_slice(), seed.as_slice())
             } else {
                 None

@@ -74,8 +74,8 @@ by-lower a (suc n) xs low =
     ap (glances_by a) grown
     ∙ (by-append a (flat_map (of_actor xs) (range_with_len 0 n)) (of_actor xs n)
     ∙ (let front : glances_by a (flat_map (of_actor xs) (range_with_len 0 n)) ≡ 0 = by-lower a n xs (omega arith) in
-       let back : glances_by a (of_actor xs n) ≡ 0 = by-others a n xs (omega arith) in
-       omega (arith, front, back)))
+    let back : glances_by a (of_actor xs n) ≡ 0 = by-others a n xs (omega arith) in
+    omega (arith, front, back)))
 
 -- ---- lines
 

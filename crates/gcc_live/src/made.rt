@@ -50,7 +50,8 @@ fn serve_line(alloc: Global, sender: &mut LiveSender, line: Line) -> Result<u128
     ensures bytes { IfOk result (λ bytes. (lines : List Line) → StandsFor sender.old (ordered lines) → bytes_of (ordered (lines ++ line ∷ [])) ≡ bytes_of (ordered lines) + bytes) }
     ensures few { IfOk result (λ bytes. bytes ≤ 2 ^ 64) }
 {
-    match line.action {
+    let Line { action, .. } = line;
+    match action {
         Action::Ask(call) => {
             let reply = serve(alloc, sender, call)?;
             Ok(bytes_by(&reply))

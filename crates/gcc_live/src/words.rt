@@ -62,7 +62,8 @@ fn asked(words: &[Vec<u8>]) -> Option<Job> {
         [first, senders, second, calls, third, seed] => {
             if first.as_slice() == b"--senders".as_slice()
                 && second.as_slice() == b"--calls".as_slice()
-                && third.as_slice() == b"--seed".as_slice() {
+                && third.as_slice() == b"--seed".as_slice()
+            {
                 made(senders.as_slice(), calls.as_slice(), seed.as_slice())
             } else {
                 None

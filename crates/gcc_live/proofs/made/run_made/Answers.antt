@@ -12,6 +12,6 @@ loop-k-preserved c =
     let seed : ℕ = c.args.seed in
     let k : ℕ = c.loop-k.k in
     c.in_ok-sender.ensures
-    ∙ (ap (λ s. string_bytes c.loop-k.text ++ sum_line calls (ordered (made s calls 1).lines)) (c.wrapping_add.ensures ∙ ap (λ n. (seed + n) % 2 ^ 64) c.from.ensures)
+    ∙ (ap (λ s. string_bytes c.loop-k.text ++ sum_line calls (ordered (made s calls 1).lines)) (ap (λ n. (seed + n) % 2 ^ 64) c.from.ensures)
     ∙ (ap (λ t. t ++ line_at seed calls k) c.loop-k.invariant
     ∙ sym (flat_map-range (line_at seed calls) k)))

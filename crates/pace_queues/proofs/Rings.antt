@@ -50,16 +50,16 @@ by_index-first t (u ∷ us) back before after =
     rw (by_index-first t us back (All-tail (CameBefore t) u us before) after)
     (put_in-after u t (by_index (us ++ back)) (All-head (CameBefore t) u us before))
 
-All-of_rank : (P : Ticket → Type 0) (rank : ℕ) (ts : List Ticket) → All P ts → All P (of_rank rank ts)
+pub All-of_rank : (P : Ticket → Type 0) (rank : ℕ) (ts : List Ticket) → All P ts → All P (of_rank rank ts)
 All-of_rank P rank ts all = All-filter (has_rank rank) P ts all
 
 abbrev parts : List Ticket → List Ticket
 parts ts = of_rank 0 ts ++ (of_rank 1 ts ++ of_rank 2 ts)
 
-abbrev OneOf : ℕ → Type 0
+abbrev pub OneOf : ℕ → Type 0
 OneOf rank = (rank ≡ 0) ⊎ ((rank ≡ 1) ⊎ (rank ≡ 2))
 
-ranks : (class : Class) → OneOf (rank_of class)
+pub ranks : (class : Class) → OneOf (rank_of class)
 ranks Audio = inl refl
 ranks Retransmission = inr (inl refl)
 ranks Video = inr (inr refl)

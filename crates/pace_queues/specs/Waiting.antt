@@ -18,6 +18,12 @@ better (Some best) t = if goes_before t best then Some t else Some best
 abbrev pub next : List Ticket → Option Ticket
 next waiting = fold better None waiting
 
+-- of two tickets the one that came first, where there is one
+abbrev pub earlier : Option Ticket → Option Ticket → Option Ticket
+earlier None b = b
+earlier (Some a) None = Some a
+earlier (Some a) (Some b) = if nat_lt b.index a.index then Some b else Some a
+
 -- those with another index
 abbrev pub without : ℕ → List Ticket → List Ticket
 without index waiting = filter (λ (t : Ticket). not (t.index == index)) waiting

@@ -1,5 +1,5 @@
-ghost use Rattle.std.specs.Prelude.{◌≡◌, ◌<◌, ◌≤◌, ◌↔◌, List, [], ◌∷◌, ◌++◌, length, All, sum_by, IsOk, IsNone, OnOk, OnErr, IfOk, IfErr, IfSome};
-ghost use Rattle.pace_queues.specs.Waiting.{next, rest, IsLeast, LosesJust, HasIndexBelow, size_of, accepted_at_of};
+ghost use Rattle.std.specs.Prelude.{◌≡◌, ◌<◌, ◌≤◌, ◌↔◌, List, [], ◌∷◌, ◌++◌, length, All, sum_by, slice_get, IsOk, IsNone, OnOk, OnErr, IfOk, IfErr, IfSome};
+ghost use Rattle.pace_queues.specs.Waiting.{earlier, next, rest, IsLeast, LosesJust, HasIndexBelow, size_of, accepted_at_of};
 ghost use Rattle.circular_buffer.specs.Buffer.{buffer};
 
 use crate::ticket::{Full, Ticket};
@@ -86,6 +86,17 @@ impl Queues {
         audio.or(retransmission).or(self.video.front().copied())
     }
 
+    /// The ticket that waits longest, which stays: the first in the order of arrival. `None` exactly
+    /// where nothing waits.
+    pub fn first(&self) -> Option<Ticket>
+        ensures first { result ≡ slice_get self.now 0 }
+        ensures none { IsNone result ↔ (self.now ≡ []) }
+    {
+        let audio = self.audio.front().copied();
+        let retransmission = self.retransmissions.front().copied();
+        earlier(earlier(audio, retransmission), self.video.front().copied())
+    }
+
     /// Takes out the ticket with the least pair of rank and index. `None` exactly where nothing
     /// waits.
     pub fn pop(&mut self) -> Option<Ticket>
@@ -126,6 +137,19 @@ impl Queues {
         ensures { result ≡ sum_by accepted_at_of self.now }
     {
         self.accepted_sum
+    }
+}
+
+// Of two tickets, the one that came first.
+fn earlier(a: Option<Ticket>, b: Option<Ticket>) -> Option<Ticket>
+    ensures { result ≡ earlier a b }
+{
+    let Some(first) = a else {
+        return b;
+    };
+    match b {
+        Some(second) if second.index < first.index => b,
+        _ => a,
     }
 }
 

@@ -1,5 +1,6 @@
 mod Draining
 mod Taking
+mod Rising
 mod Carrying
 mod PaceLoop
 mod Room

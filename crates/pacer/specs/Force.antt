@@ -1,5 +1,6 @@
 -- The rate in force: the pacing rate, or what drains the queue in time.
-use Rattle.std.specs.Prelude.{ℕ, ◌+◌, ◌-◌, ◌*◌, ◌/◌, min, max, List, [], ◌∷◌, length, sum_by}
+use Rattle.std.specs.Prelude.{ℕ, ◌+◌, ◌-◌, ◌*◌, ◌/◌, ◌==◌, if◌then◌else◌, min, max, Option, None, Some, List, [], ◌∷◌, length, sum_by}
+use Rattle.std.specs.Int.{div_ceil}
 use Rattle.gcc_units.specs.declared.limits.TheConstants.{GREATEST_RATE, BYTE}
 use Rattle.pace_queues.specs.declared.ticket.Ticket.{Ticket}
 use Rattle.pace_queues.specs.Waiting.{size_of}
@@ -25,3 +26,7 @@ drain moment (t ∷ ts) = ceiling (BYTE * sum_by size_of (t ∷ ts)) (max LEAST_
 -- the rate in force at a moment, with this pacing rate and these packets waiting
 unfoldable pub in_force : ℕ → ℕ → List Ticket → ℕ
 in_force pacing moment waiting = min GREATEST_RATE (max pacing (drain moment waiting))
+
+-- the time in which a rate sends what waits, rounded up; none at no rate
+abbrev pub sending_time : ℕ → List Ticket → Option ℕ
+sending_time rate waiting = if rate == 0 then None else Some (div_ceil (BYTE * sum_by size_of waiting) rate)

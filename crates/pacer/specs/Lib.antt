@@ -7,3 +7,4 @@ pub mod Sends
 pub mod Force
 pub mod State
 pub mod Inside
+pub mod Next

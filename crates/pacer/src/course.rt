@@ -35,7 +35,8 @@ pub struct Course {
     pub began: bool,
 }
 
-fn is_audio(class: Class) -> bool
+/// Whether packets of the class are audio.
+pub fn is_audio(class: Class) -> bool
     ensures { result ≡ is_audio class }
 {
     match class {

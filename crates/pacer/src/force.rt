@@ -2,7 +2,7 @@
 
 ghost use Rattle.std.specs.Prelude.{◌≡◌, ◌≤◌, ◌+◌, ◌-◌, ◌*◌, ◌/◌, ◌^◌, ◌<◌, length, max, sum_by, All};
 ghost use Rattle.pace_queues.specs.Waiting.{size_of, accepted_at_of};
-ghost use Rattle.pacer.specs.Force.{ceiling, drain, in_force, waited};
+ghost use Rattle.pacer.specs.Force.{ceiling, drain, in_force, sending_time, waited};
 ghost use Rattle.pacer.specs.State.{IsDue};
 
 use gcc_units::{BYTE, GREATEST_MOMENT, GREATEST_RATE, Moment, Rate};
@@ -38,6 +38,20 @@ fn drain(moment: Moment, queues: &Queues) -> Rate
     let waited = average(count, moment, queues.accepted_sum());
     let time = LEAST_DRAIN_TIME.max(DRAIN_TIME.saturating_sub(waited));
     ceiling(BYTE * queues.bytes(), time)
+}
+
+/// The time in which a rate in bit/s sends what waits, in microseconds and rounded up. `None` exactly
+/// where the rate is 0.
+pub fn sending_time(rate: Rate, moment: Moment, queues: &Queues) -> Option<u64>
+    requires due { All (IsDue moment) queues.now }
+    ensures { result ≡ sending_time rate queues.now }
+{
+    if rate == 0 {
+        return None;
+    }
+    // Few enough packets wait that the product fits.
+    let _few = queues.len();
+    Some((BYTE * queues.bytes()).div_ceil(rate))
 }
 
 // How long so many packets have waited on average, by the sum of the moments at which they came.

@@ -11,6 +11,7 @@
 
 mod course;
 mod force;
+mod opening;
 mod pacer;
 mod pacing;
 mod sent;

@@ -1,19 +1,24 @@
 //! The pacer.
 
-ghost use Rattle.std.specs.Prelude.{◌≡◌, ℕ, pos, neg_ℤ, ◌+◌, ◌*◌, ◌≤◌, ◌≤ℤ◌, ◌<◌, ◌^◌, ◌++◌, [], List, length, All, IfOk, IsOk, OnOk, OnErr, IfErr};
+ghost use Rattle.std.specs.Prelude.{◌≡◌, ◌↔◌, ℕ, pos, neg_ℤ, ◌+◌, ◌*◌, ◌≤◌, ◌≤ℤ◌, ◌<◌, ◌^◌, ◌++◌, [], List, length, slice_get, sum_by, All, None, IsSome, IsNone, IfSome, IfNone, IfOk, IsOk, OnOk, OnErr, IfErr};
 ghost use Rattle.pace_budget.specs.Level.{full};
-ghost use Rattle.pace_queues.specs.Waiting.{HasIndexBelow};
+ghost use Rattle.pace_queues.specs.Waiting.{next, size_of, HasIndexBelow};
+ghost use Rattle.probe_clusters.specs.Moments.{IsFirstFrom};
 ghost use Rattle.probe_clusters.specs.Deeds.{Deed, StandsFor};
 ghost use Rattle.pacer.specs.Pace.{after_all, paced};
 ghost use Rattle.pacer.specs.Course.{HasRoom, IsLowered, MayLower, probes_of};
+ghost use Rattle.pacer.specs.Force.{sending_time};
+ghost use Rattle.pacer.specs.Next.{first_at, is_free, is_open};
 ghost use Rattle.pacer.specs.State.{start, advanced, accepted, terms, standing, left, tuned, tally, IsPacing};
 
-use crate::course::{Course, Terms, run};
-use crate::force::in_force;
+use crate::course::{Course, Terms, is_audio, run};
+use crate::force::{in_force, sending_time};
+use crate::opening::{opening, sooner};
 use crate::pacing::{Pacing, START_PACING, START_PADDING, START_WINDOW, Tally};
 use crate::sent::SentList;
 use gcc_units::{
-    GREATEST_MOMENT, GREATEST_PACKET, Level, MOST_SENDS, MOST_WAITING, Moment, NoMemory, Rate,
+    GREATEST_MOMENT, GREATEST_PACKET, GREATEST_RATE, Level, MOST_SENDS, MOST_WAITING, Moment,
+    NoMemory, Rate,
 };
 use pace_budget::Bucket;
 use pace_queues::{Full, Queues, Ticket};
@@ -81,6 +86,84 @@ impl Pacer {
         ensures most { result ≤ MOST_WAITING }
     {
         self.course.queues.len()
+    }
+
+    /// The sum of the sizes of what waits, in bytes.
+    pub fn bytes(&self) -> u64
+        ensures { result ≡ sum_by size_of self.now.waiting }
+    {
+        self.course.queues.bytes()
+    }
+
+    /// The ticket that waits longest: the first in the order of arrival. `None` exactly where nothing
+    /// waits.
+    pub fn first(&self) -> Option<Ticket>
+        ensures first { result ≡ slice_get self.now.waiting 0 }
+        ensures none { IsNone result ↔ (self.now.waiting ≡ []) }
+    {
+        self.course.queues.first()
+    }
+
+    /// The rate in force, in bit/s.
+    pub fn rate(&self) -> Rate
+        ensures value { result ≡ self.now.rate }
+        ensures most { result ≤ GREATEST_RATE }
+    {
+        self.rate
+    }
+
+    /// The time in which the rate in force sends what waits, in microseconds and rounded up. `None`
+    /// exactly where that rate is 0.
+    pub fn sending_time(&self) -> Option<u64>
+        ensures { result ≡ sending_time self.now.rate self.now.waiting }
+    {
+        sending_time(self.rate, self.moment, &self.course.queues)
+    }
+
+    /// The first moment, from its own on and in microseconds, at which a pace would send something if no
+    /// other call came before it: at once where the next packet is audio that is not held back, where a
+    /// cluster is due, or where the level is above 0 from which it would be sent. `None` exactly where
+    /// none up to `GREATEST_MOMENT` would.
+    pub fn next_send(&self, clusters: &Clusters) -> Option<Moment>
+        ensures from_on { IfSome result (λ m. self.now.moment ≤ m) }
+        ensures in_time { IfSome result (λ m. m ≤ GREATEST_MOMENT) }
+        ensures sends { IfSome result (λ m. (number : ℕ) → IsSome (first_at self.now clusters.now.items number m)) }
+        ensures none_before { IfSome result (λ m. (number t : ℕ) → self.now.moment ≤ t → t < m → first_at self.now clusters.now.items number t ≡ None) }
+        ensures none { IfNone result ((number t : ℕ) → self.now.moment ≤ t → t ≤ GREATEST_MOMENT → first_at self.now clusters.now.items number t ≡ None) }
+    {
+        if self.is_free() {
+            return Some(self.moment);
+        }
+        sooner(clusters.next_due(self.moment), self.next_open())
+    }
+
+    // Whether the next packet is audio that is not held back.
+    fn is_free(&self) -> bool
+        ensures { result ≡ is_free self.now (next self.now.waiting) }
+    {
+        match self.course.queues.head() {
+            Some(ticket) => is_audio(ticket.class) && !self.pacing.paced_audio,
+            None => false,
+        }
+    }
+
+    // The first moment at which the level is above 0 from which a packet would be sent.
+    fn next_open(&self) -> Option<Moment>
+        ensures { IsFirstFrom self.now.moment (is_open self.now (next self.now.waiting)) result }
+    {
+        let window = self.pacing.window;
+        if self.course.queues.head().is_some() {
+            return opening(self.course.media.level(), self.rate, window, self.moment);
+        }
+        if !self.course.began {
+            return None;
+        }
+        opening(
+            self.course.padding.level(),
+            self.pacing.padding_rate,
+            window,
+            self.moment,
+        )
     }
 
     /// Time passes up to a moment, in microseconds: both levels advance at the rates that were in force.

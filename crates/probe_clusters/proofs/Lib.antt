@@ -7,3 +7,4 @@ pub mod Later
 pub mod Passed
 pub mod Reports
 pub mod Readiness
+pub mod Dues

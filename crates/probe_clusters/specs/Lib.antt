@@ -1,4 +1,5 @@
 pub mod Heard
+pub mod Moments
 pub mod Cluster
 pub mod Clusters
 pub mod Deeds

@@ -1,12 +1,13 @@
 //! One probe cluster.
 
-ghost use Rattle.std.specs.Prelude.{◌≡◌, ◌≤◌, ◌*◌, nat_le};
+ghost use Rattle.std.specs.Prelude.{◌≡◌, ◌≤◌, ◌*◌, nat_le, if◌then◌else◌, Some, None};
 ghost use Rattle.probe_clusters.specs.Heard.{result_of};
+ghost use Rattle.probe_clusters.specs.Moments.{IsFirstFrom};
 ghost use Rattle.probe_clusters.specs.Cluster.{is_due, is_enough, is_ready, planned, waits, with_credit, with_packet, with_result_taken, IsSmall};
 
 use crate::heard::Heard;
 use crate::{ALL_PARTS, ENOUGH_PARTS, LEAST_PACKETS, LEAST_TIME};
-use gcc_units::{BYTE, Credit, GREATEST_PACKET, Moment, Rate};
+use gcc_units::{BYTE, Credit, GREATEST_MOMENT, GREATEST_PACKET, Moment, Rate};
 
 /// What is kept of a cluster.
 #[derive(Clone, Copy)]
@@ -53,6 +54,22 @@ impl Cluster {
             return true;
         };
         self.level() <= u128::from(self.rate) * u128::from(now.saturating_sub(first))
+    }
+
+    /// The first moment from `from` on at which it is due, in microseconds; `None` where it is due at
+    /// none up to `GREATEST_MOMENT`.
+    pub fn next_due(&self, from: Moment) -> Option<Moment>
+        ensures { IsFirstFrom from (is_due self.now) result }
+    {
+        if self.is_due(from) {
+            return in_time(u128::from(from));
+        }
+        let first = self.first_sent?;
+        if self.rate == 0 {
+            return None;
+        }
+        let lasts = self.level().div_ceil(u128::from(self.rate));
+        in_time(u128::from(first) + lasts)
     }
 
     /// The same with one packet more.
@@ -130,6 +147,17 @@ impl Cluster {
         ensures { result ≡ BYTE * self.now.bytes }
     {
         u128::from(BYTE) * u128::from(self.bytes)
+    }
+}
+
+// A moment, where it is not too large.
+fn in_time(moment: u128) -> Option<Moment>
+    ensures { result ≡ (if nat_le moment GREATEST_MOMENT then Some moment else None) }
+{
+    if moment <= u128::from(GREATEST_MOMENT) {
+        Some(moment as u64)
+    } else {
+        None
     }
 }
 

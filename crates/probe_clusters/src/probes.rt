@@ -1,4 +1,4 @@
-ghost use Rattle.std.specs.Prelude.{◌≡◌, ℕ, ◌↔◌, ◌<◌, ◌≤◌, ◌+◌, ◌^◌, if◌then◌else◌, List, [], ◌∷◌, ◌++◌, length, count_by, position, slice_set, false, vec_len, vec_capacity, IsNone, IsSome, IfSome, IfNone, IfErr, IfOk, OnOk, OnErr, IsErr};
+ghost use Rattle.std.specs.Prelude.{◌≡◌, ℕ, ◌↔◌, ◌<◌, ◌≤◌, ◌+◌, ◌^◌, if◌then◌else◌, List, [], ◌∷◌, ◌++◌, length, count_by, position, slice_set, false, vec_len, vec_capacity, None, IsNone, IsSome, IfSome, IfNone, IfErr, IfOk, OnOk, OnErr, IsErr};
 ghost use Rattle.gcc_units.specs.Listed.{bare};
 ghost use Rattle.gcc_units.specs.Rates.{IsRate};
 ghost use Rattle.probe_clusters.specs.declared.cluster.Cluster.{Cluster};
@@ -7,7 +7,9 @@ ghost use Rattle.probe_clusters.specs.Clusters.{AreOver, AreReady, NoneOfFirst, 
 ghost use Rattle.probe_clusters.specs.Deeds.{Deed, clusters, Plan, Note, StandsFor, ReachedBy, send, takings};
 
 use crate::cluster::Cluster;
-use gcc_units::{Credit, GREATEST_PACKET, MOST_CLUSTERS, MOST_PACKETS, Moment, NoMemory, Rate};
+use gcc_units::{
+    Credit, GREATEST_MOMENT, GREATEST_PACKET, MOST_CLUSTERS, MOST_PACKETS, Moment, NoMemory, Rate,
+};
 use std::alloc::Global;
 use std::marker::Model;
 
@@ -144,6 +146,20 @@ impl Clusters {
         } else {
             None
         }
+    }
+
+    /// The first moment from `from` on at which the current cluster is due, in microseconds: once it
+    /// is, it stays so until a packet is sent for it. `None` exactly where there is none up to
+    /// `GREATEST_MOMENT`: no cluster waits, or the current one is due only later.
+    pub fn next_due(&self, from: Moment) -> Option<Moment>
+        ensures from_on { IfSome result (λ m. from ≤ m) }
+        ensures in_time { IfSome result (λ m. m ≤ GREATEST_MOMENT) }
+        ensures due { IfSome result (λ m. IsSome (due self.now.items m)) }
+        ensures none_before { IfSome result (λ m. (t : ℕ) → from ≤ t → t < m → due self.now.items t ≡ None) }
+        ensures none { IfNone result ((t : ℕ) → from ≤ t → t ≤ GREATEST_MOMENT → due self.now.items t ≡ None) }
+    {
+        let id = current(self.held.as_slice(), self.over as usize)?;
+        self.held[id].next_due(from)
     }
 
     /// Counts one packet for the current cluster, which has to be due.

@@ -1,0 +1,27 @@
+use Rattle.std.proofs.Common.{sym}
+use Rattle.pace_queues.proofs.Changes.{list-is}
+use Rattle.pace_queues.proofs.Oldest.{first-is, first-is_none}
+use Rattle.pace_queues.proofs.queues.Queues.first.Goals as goal
+
+pub returns-clause-first : goal.returns-clause-first
+returns-clause-first c =
+    let r = c.self.invariant in
+    rw (
+      ← c.self.view_is,
+      list-is c.self.inside r,
+      c.earlier-2.ensures,
+      c.earlier.ensures,
+      c.copied-audio.ensures,
+      c.front.ensures,
+      c.copied-retransmission.ensures,
+      c.front-2.ensures,
+      c.copied.ensures,
+      c.front-3.ensures,
+      r.first_is,
+      r.second_is,
+      r.third_is,
+    )
+    (sym (first-is r.waiting r.rising))
+
+pub returns-clause-none : goal.returns-clause-none
+returns-clause-none c = rw (returns-clause-first c) (first-is_none c.args.self.now)

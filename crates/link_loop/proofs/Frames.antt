@@ -1,5 +1,5 @@
 -- What the sources enqueue, and when it is due.
-use Rattle.std.proofs.Common.{◌≡◌, ℕ, suc, ◌+◌, ◌%◌, Bool, true, false, if◌then◌else◌, refl, ◌∙◌, ap, arith}
+use Rattle.std.proofs.Common.{◌≡◌, ℕ, suc, ◌+◌, ◌%◌, Bool, true, false, if◌then◌else◌, refl, sym, ◌∙◌, ap, arith}
 use Rattle.std.specs.Prelude.{◌==◌}
 use Rattle.std.proofs.lemmas.Bool.Decides.{nat_tests}
 use Rattle.gcc_units.specs.Listed.{Listed, bare}
@@ -12,7 +12,7 @@ use Rattle.link_path.specs.declared.link.LinkSettings.{LinkSettings}
 use Rattle.link_path.specs.Receiver.{KeptReceiver, next_reports, told_all}
 use Rattle.link_loop.specs.declared.TheConstants.{SOURCES}
 use Rattle.link_loop.specs.declared.looper.Looper.{Looper}
-use Rattle.link_loop.specs.Looping.{Looping, asked, all_served, with_reports, with_audio, with_video, with_packets, with_frame, millisecond, unused, looping}
+use Rattle.link_loop.specs.Looping.{Looping, asked, all_served, with_reports, with_audio, with_video, with_packets, with_frame, all_due, millisecond, unused, looping}
 use Rattle.link_loop.specs.Kept.{IsAt}
 
 pub audio-is : (t at count t_ : ℕ) (wire : Listed ℕ) (l : Looper) (s : LinkSettings) (m : Looping) → IsAt l s m → t % 20 ≡ 0 → at ≡ moment t
@@ -57,7 +57,11 @@ reports-due t m due =
 pub at-told : (l : Looper) (receiver : KeptReceiver) (s : LinkSettings) (m : Looping) → receiver ≡ told_all l.receiver → IsAt l s m
     → IsAt (record l { receiver = receiver }) s (record m { receiver = told_all m.receiver })
 at-told l receiver s m is h =
-    record { history = h.history; link = h.link; receiver = is ∙ ap told_all h.receiver; delivered = h.delivered; dropped = h.dropped; reports = h.reports; over = h.over }
+    record { history = h.history; link = h.link; receiver = is ∙ ap told_all h.receiver; delivered = h.delivered; dropped = h.dropped; reports = h.reports; over = h.over; read = h.read }
+
+pub all-due : (l : Looper) (s : LinkSettings) (t : ℕ) (m : Looping) → IsAt l s m → l.over ≡ false → all_due s t m ≡ millisecond s t m
+unfolding millisecond
+all-due l s t m h is = let e : m.over ≡ false = sym h.over ∙ is in rw e refl
 
 pub looping-none : (s : LinkSettings) → unused ≡ looping s 0
 unfolding looping

@@ -9,4 +9,8 @@ mod Closed
 mod Once
 mod Split
 mod Reported
+mod Verdicts
+mod Credited
+mod Crediting
+mod Full
 mod Ends

@@ -58,6 +58,7 @@ offer-at l there numbers r now s m stands numbers_are h =
           ∙ sym (ap (dropped s) (offers-push m.events (offered o)) ∙ dropped-push s (offers m.events) o);
       reports = h.reports;
       over = h.over;
+      read = h.read;
     }
 
 pub offers-more : (now : ℕ) (rs : List Sent) (r : Sent) (m : Looping) → with_offers now (rs ++ r ∷ []) m ≡ with_offers now (r ∷ []) (with_offers now rs m)
@@ -136,6 +137,7 @@ arrivals-at l there receiver list arrived t at xs s m at_is stands arrived_are x
       dropped = h.dropped ∙ ap (dropped s) (sym (offers-push m.events (link.asked at) ∙ append-nil (offers m.events)));
       reports = h.reports;
       over = h.over;
+      read = h.read;
     } in
     let P : ℕ → Type 0 = λ n. IsAt (record l { link = there; receiver = receiver; delivered = list }) s
     (record m { events = m.events ++ link.asked n ∷ []; receiver = record m.receiver { taken = m.receiver.taken ++ given s m.events (link.asked n) } }) in

@@ -93,7 +93,7 @@ short-by : (b : Bool) (n : ℕ) → (not b && nat_lt n MOST_ENTRIES) ≡ true �
 short-by true n e = absurd cc
 short-by false n e = grind (arith, nat_tests)
 
-sent-push : (h : List Entry) (caller : ℕ) (c : Call) → length (sent (h ++ entry caller c (reply h c) ∷ [])) ≡ length (sent h) + length (sent_by (reply h c))
+pub sent-push : (h : List Entry) (caller : ℕ) (c : Call) → length (sent (h ++ entry caller c (reply h c) ∷ [])) ≡ length (sent h) + length (sent_by (reply h c))
 sent-push h caller c = ap length (flat_map-push (λ (e : Entry). sent_by e.reply) h (entry caller c (reply h c))) ∙ length-append (sent h) (sent_by (reply h c))
 
 order-grown : (s : LinkSettings) (caller : ℕ) (c : Call) (m : Looping) → is_open m ≡ true → IsFit c → IsInOrder s m → IsInOrder s (grown caller c m)

@@ -37,7 +37,7 @@ use Rattle.link_loop.proofs.Order.{order-opening, order-arrivals, order-looping}
 
 -- ---- what leaves the receiver, its reports and what was delivered as they are
 
-record IsStill (s : LinkSettings) (m n : Looping) : Type 0 where
+pub record IsStill (s : LinkSettings) (m n : Looping) : Type 0 where
   receiver : n.receiver ≡ m.receiver
   reports : n.reports ≡ m.reports
   out : delivered s n.events ≡ delivered s m.events
@@ -61,7 +61,7 @@ still-asked s caller c m = by_open (is_open m)
     by_open true = record { receiver = refl; reports = refl; out = refl; over = λ h. h }
     by_open false = still-ended s m
 
-still-opening : (s : LinkSettings) (t : ℕ) (m : Looping) → IsStill s m (with_opening t m)
+pub still-opening : (s : LinkSettings) (t : ℕ) (m : Looping) → IsStill s m (with_opening t m)
 unfolding with_opening
 still-opening s t m = by_due (t == 0)
   where
@@ -137,7 +137,7 @@ pub record IsReported (k : KeptReceiver) (reports : List Feedback) (out : List A
   pub numbers : NumbersFrom 0 out
   pub next : next_from 0 out ≡ next_from k.from k.taken
 
-reported-still : (s : LinkSettings) (m n : Looping) → IsStill s m n → IsReported m.receiver m.reports (delivered s m.events) m.over → IsReported n.receiver n.reports (delivered s n.events) n.over
+pub reported-still : (s : LinkSettings) (m n : Looping) → IsStill s m n → IsReported m.receiver m.reports (delivered s m.events) m.over → IsReported n.receiver n.reports (delivered s n.events) n.over
 reported-still s m n still r =
     rw (still.receiver, still.reports, still.out) (record {
       before = r.before;
@@ -178,7 +178,7 @@ reported-taken k reports out g over numbers r =
       next = next-append 0 out g ∙ ap (λ n. next_from n g) r.next ∙ sym (next-append k.from k.taken g);
     }
 
-reported-arrivals : (s : LinkSettings) (t : ℕ) (m : Looping) → moment t ≤ GREATEST_TAKEN → IsInOrder s m → IsReported m.receiver m.reports (delivered s m.events) m.over
+pub reported-arrivals : (s : LinkSettings) (t : ℕ) (m : Looping) → moment t ≤ GREATEST_TAKEN → IsInOrder s m → IsReported m.receiver m.reports (delivered s m.events) m.over
     → IsReported (with_arrivals s t m).receiver (with_arrivals s t m).reports (delivered s (with_arrivals s t m).events) (with_arrivals s t m).over
 unfolding with_arrivals
 reported-arrivals s t m early order r =
@@ -191,18 +191,18 @@ reported-arrivals s t m early order r =
 -- ---- reports
 
 -- these are still to be served
-record IsServing (all : List (Option ℤ)) (reports fs : List Feedback) (over : Bool) : Type 0 where
-  unserved : List (Option ℤ)
-  told : all_told reports ++ unserved ≡ all
-  none : over ≡ false → unserved ≡ all_told fs
-  based : AreBased 0 reports
-  next : over ≡ false → AreBased (length (statuses_in reports)) fs
+pub record IsServing (all : List (Option ℤ)) (reports fs : List Feedback) (over : Bool) : Type 0 where
+  pub unserved : List (Option ℤ)
+  pub told : all_told reports ++ unserved ≡ all
+  pub none : over ≡ false → unserved ≡ all_told fs
+  pub based : AreBased 0 reports
+  pub next : over ≡ false → AreBased (length (statuses_in reports)) fs
 
-open-by : (over room : Bool) → (not over && room) ≡ true → over ≡ false
+pub open-by : (over room : Bool) → (not over && room) ≡ true → over ≡ false
 open-by true room e = absurd cc
 open-by false room e = refl
 
-serving-served : (t : ℕ) (f : Feedback) (fs : List Feedback) (all : List (Option ℤ)) (m : Looping) → IsServing all m.reports (f ∷ fs) m.over
+pub serving-served : (t : ℕ) (f : Feedback) (fs : List Feedback) (all : List (Option ℤ)) (m : Looping) → IsServing all m.reports (f ∷ fs) m.over
     → IsServing all (served t f m).reports fs (served t f m).over
 unfolding served
 serving-served t f fs all m r = by_open (is_open m) refl
@@ -255,7 +255,7 @@ kept-all t (f ∷ fs) m =
     let more : IsKept (served t f m) (all_served t fs (served t f m)) = kept-all t fs (served t f m) in
     record { receiver = more.receiver ∙ one.receiver; events = more.events ∙ one.events }
 
-serving-first : (k : KeptReceiver) (reports : List Feedback) (out : List Arrival) (over : Bool) → RunRises 0 (heard 0 out) → (r : IsReported k reports out over)
+pub serving-first : (k : KeptReceiver) (reports : List Feedback) (out : List Arrival) (over : Bool) → RunRises 0 (heard 0 out) → (r : IsReported k reports out over)
     → IsServing (as_told (heard 0 out)) reports (next_reports k) over
 serving-first k reports out over rises r =
     let fresh : Run = heard k.from k.taken in
@@ -299,7 +299,7 @@ times-front : (low : ℕ) (xs ys : List Arrival) (high : ℕ) → RisesBetween l
 times-front low [] ys high r = tt
 times-front low (x ∷ xs) ys high r = (omega (arith, r.0), times-front x.at xs ys high r.1)
 
-out-rises : (s : LinkSettings) (m : Looping) → IsInOrder s m → RunRises 0 (heard 0 (delivered s m.events))
+pub out-rises : (s : LinkSettings) (m : Looping) → IsInOrder s m → RunRises 0 (heard 0 (delivered s m.events))
 out-rises s m order =
     let high : ℕ = free_after s (offers m.events) + s.delay in
     let P : List Arrival → Type 0 = λ xs. RisesBetween 0 xs high in

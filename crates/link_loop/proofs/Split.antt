@@ -198,19 +198,24 @@ split-due s last t m later order split =
 record IsSplitAt (s : LinkSettings) (n : ℕ) (m : Looping) : Type 0 where
   last : ℕ
   early : last ≤ n - 1
+  now : m.over ≡ false → last ≡ n - 1
   split : IsSplit s (moment last) m.events
+
+open-not-over : (b : Bool) → b ≡ true → b ≡ false → ⊥
+open-not-over true e h = absurd cc
+open-not-over false e h = absurd cc
 
 split-millisecond : (s : LinkSettings) (t : ℕ) (m : Looping) → IsInOrder s m → IsSplitAt s t m → IsSplitAt s (suc t) (millisecond s t m)
 unfolding millisecond
-split-millisecond s t m order split = by_over m.over
+split-millisecond s t m order split = by_over m.over refl
   where
-    by_over : (b : Bool) → IsSplitAt s (suc t) (if b then m else all_due s t m)
-    by_over true = record { last = split.last; early = omega (arith, split.early); split = split.split }
-    by_over false = record { last = t; early = omega arith; split = split-due s (moment split.last) t m (omega (arith, split.early)) order split.split }
+    by_over : (b : Bool) → m.over ≡ b → IsSplitAt s (suc t) (if b then m else all_due s t m)
+    by_over true is = record { last = split.last; early = omega (arith, split.early); now = λ h. absurd (open-not-over m.over is h); split = split.split }
+    by_over false is = record { last = t; early = omega arith; now = λ h. omega arith; split = split-due s (moment split.last) t m (omega (arith, split.early)) order split.split }
 
 split-looping : (s : LinkSettings) (n : ℕ) → IsLink s → IsSplitAt s n (looping s n)
 unfolding looping
-split-looping s zero link_ = record { last = 0; early = omega arith; split = record { out = All-nil (IsBy 0); inside = All-nil (IsAfter 0) } }
+split-looping s zero link_ = record { last = 0; early = omega arith; now = λ h. refl; split = record { out = All-nil (IsBy 0); inside = All-nil (IsAfter 0) } }
 split-looping s (suc n) link_ = split-millisecond s n (looping s n) (order-looping s n link_) (split-looping s n link_)
 
 -- ---- the front of all arrivals
@@ -230,18 +235,20 @@ front last (a ∷ xs) ys out late =
     rw e (ap (λ (zs : List Arrival). a ∷ zs) (front last xs ys (All-tail (IsBy last) a xs out) late))
 
 -- what was delivered by a millisecond of the run
-pub record IsFront (n : ℕ) (out all : List Arrival) : Type 0 where
+pub record IsFront (n : ℕ) (over : Bool) (out all : List Arrival) : Type 0 where
   pub last : ℕ
   pub early : last ≤ n - 1
+  pub now : over ≡ false → last ≡ n - 1
   pub is : out ≡ filter (has_arrived (moment last)) all
 
 pub front-looping : (s : LinkSettings) (n : ℕ) (all : List Arrival) → IsLink s → delivered s (looping s n).events ++ held s (looping s n).events ≡ all
-    → IsFront n (delivered s (looping s n).events) all
+    → IsFront n (looping s n).over (delivered s (looping s n).events) all
 front-looping s n all link_ e =
     let at : IsSplitAt s n (looping s n) = split-looping s n link_ in
     record {
       last = at.last;
       early = at.early;
+      now = at.now;
       is =
           sym (ap (filter (has_arrived (moment at.last))) (sym e)
           ∙ front (moment at.last) (delivered s (looping s n).events) (held s (looping s n).events) at.split.out at.split.inside);

@@ -1,7 +1,9 @@
 -- What is kept of a loop, and what it stands for.
-use Rattle.std.specs.Prelude.{◌≡◌, ℕ, ◌+◌, ◌≤◌, List, [], ◌∷◌, length, map, All}
+use Rattle.std.specs.Prelude.{◌≡◌, ℕ, pos, ◌+◌, ◌≤◌, ◌≤ℤ◌, List, [], ◌∷◌, length, map, All, Ok}
 use Rattle.gcc_units.specs.declared.limits.TheConstants.{GREATEST_PACKET}
-use Rattle.twcc_report.specs.Spelling.{view}
+use Rattle.twcc_report.specs.Spelling.{Feedback, view}
+use Rattle.twcc_report.specs.Reading.{read_of}
+use Rattle.twcc_report.specs.Canonical.{canonical}
 use Rattle.twcc_report.specs.declared.report.Report.{Report}
 use Rattle.pacer.specs.declared.sent.Sent.{Sent}
 use Rattle.send_core.specs.declared.call.Call.{Call}
@@ -18,6 +20,11 @@ use Rattle.link_path.specs.Receiver.{IsWritable, next_from}
 use Rattle.link_loop.specs.declared.looper.Looper.{Looper}
 use Rattle.link_loop.specs.Looping.{Looping}
 
+-- the canonical spelling of the report reads as it, and its reference is in its range
+pub record IsRead (f : Feedback) : Type 0 where
+  pub reads : read_of (canonical f) ≡ Ok f
+  pub high : f.reference ≤ℤ pos 8388607
+
 pub record IsAt (l : Looper) (s : LinkSettings) (m : Looping) : Type 0 where
   pub history : l.sender ≡ m.history
   pub link : StandsFor l.link s m.events
@@ -26,6 +33,7 @@ pub record IsAt (l : Looper) (s : LinkSettings) (m : Looping) : Type 0 where
   pub dropped : l.dropped.items ≡ dropped s (offers m.events)
   pub reports : map view l.reports.items ≡ m.reports
   pub over : l.over ≡ m.over
+  pub read : All IsRead m.reports
 
 -- a packet that is enqueued has bytes, and not too many
 abbrev pub IsFit : Call → Type 0

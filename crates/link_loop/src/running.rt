@@ -1,13 +1,13 @@
 //! A run of so many milliseconds.
 
-ghost use Rattle.std.specs.Prelude.{◌≡◌, ◌<◌, ◌≤◌, map, IfOk, OnOk};
+ghost use Rattle.std.specs.Prelude.{◌≡◌, ◌<◌, ◌≤◌, map, All, IfOk, OnOk};
 ghost use Rattle.gcc_units.specs.Listed.{bare};
 ghost use Rattle.twcc_report.specs.Spelling.{view};
 ghost use Rattle.link_path.specs.declared.link.LinkSettings.{LinkSettings};
 ghost use Rattle.link_path.specs.Link.{offers, held, delivered, dropped};
 ghost use Rattle.link_path.specs.KeptLink.{IsLink};
 ghost use Rattle.link_loop.specs.Looping.{Looping, millisecond, looping};
-ghost use Rattle.link_loop.specs.Kept.{IsAt, IsReady, IsSound};
+ghost use Rattle.link_loop.specs.Kept.{IsAt, IsRead, IsReady, IsSound};
 ghost use Rattle.link_loop.specs.ClosedLoop.{IsClosedLoop};
 
 use crate::MOST_MILLIS;
@@ -64,6 +64,7 @@ fn run(alloc: Global, settings: LinkSettings, millis: u32) -> Result<LoopEnd, No
     ensures dropped { IfOk result (λ e. e.dropped ≡ bare (dropped settings (offers (looping settings millis).events))) }
     ensures inside { IfOk result (λ e. e.inside ≡ bare (held settings (looping settings millis).events)) }
     ensures reports { IfOk result (λ e. map view e.reports.items ≡ (looping settings millis).reports) }
+    ensures read { OnOk result (All IsRead (looping settings millis).reports) }
 {
     let mut looper = Looper::new(alloc, settings)?;
     for t in 0..millis {
@@ -89,6 +90,9 @@ fn run(alloc: Global, settings: LinkSettings, millis: u32) -> Result<LoopEnd, No
 /// rate; every 5 ms a pace, whose packets are offered to the link. A call that would find the journal full is
 /// not made, and the run ends before it.
 ///
+/// While no more packets were sent than `gcc_units::KEPT_PACKETS`, none is forgotten before it is reported: each
+/// packet of which a report says that it was received is credited, once and with that arrival, and no other is.
+///
 /// The settings are in the ranges of a link, and there are 1 to `MOST_MILLIS` milliseconds. `NoMemory` tells
 /// that memory ran out, and nothing else.
 pub fn run_loop(alloc: Global, settings: LinkSettings, millis: u32) -> Result<LoopEnd, NoMemory>
@@ -104,7 +108,8 @@ pub fn run_loop(alloc: Global, settings: LinkSettings, millis: u32) -> Result<Lo
     ensures reports { IfOk result (λ e. map view e.reports.items ≡ (looping settings millis).reports) }
 
     // Told by its calls: the history is legal, its reports are the spellings of these, and each packet that was
-    // sent is delivered, dropped or inside, as the link has it, each once.
+    // sent is delivered, dropped or inside, as the link has it, each once. While no more were sent than are kept, the
+    // credits are just what these reports say was received.
     ensures closed { IfOk result (λ e. IsClosedLoop settings millis e.sender e.delivered.items e.inside.items e.dropped.items (map view e.reports.items)) }
 {
     let end = run(alloc, settings, millis)?;

@@ -9,6 +9,7 @@ pub mod Ending
 pub mod CountedWhole
 pub mod Rates
 pub mod Outcomes
+pub mod Served
 pub mod Made
 pub mod Decimals
 pub mod Taking

@@ -7,6 +7,8 @@ pub mod Reading
 pub mod Replay
 pub mod Outcome
 pub mod Kept
+pub mod Stops
+pub mod Served
 pub mod Racing
 pub mod OwnLines
 pub mod Race

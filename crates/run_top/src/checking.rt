@@ -1,18 +1,19 @@
 //! Checking a printed history against the trace in front of it.
 
-ghost use Rattle.std.specs.Prelude.{◌≡◌, ◌≢◌, ◌≤◌, length, IfOk, IfSome, codes, ◌++◌};
+ghost use Rattle.std.specs.Prelude.{◌≡◌, ◌≤◌, length, IfOk, IfErr, OnOk, IfSome, codes, ◌++◌};
 ghost use Rattle.std.specs.Fmt.{decimal};
 ghost use Rattle.std.specs.String.{string_bytes};
-ghost use Rattle.run_io.specs.Faults.{Rose};
 ghost use Rattle.call_trace.specs.Reading.{counted_at};
 ghost use Rattle.run_top.specs.declared.words.Command.TheVariants as command;
-ghost use Rattle.run_top.specs.Outcome.{IsReadUp, IsEnded, IsSilent, IsAnswered, NamesFault, Wrote, WroteInPart};
+ghost use Rattle.run_top.specs.Outcome.{IsReadUp, Writes};
+ghost use Rattle.run_top.specs.Served.{IsServed, streams};
+ghost use Rattle.run_top.specs.Stops.{IsStop};
 ghost use Rattle.run_top.specs.Check.{GivesVerdict, verdict_text, ended_by};
 
-use crate::reading::{ReadStop, read_all};
+use crate::reading::read_all;
 use crate::status::Status;
-use crate::writing::write_all;
-use call_trace::{ReadTrace, TOO_LONG, read_front};
+use crate::writing::write_text;
+use call_trace::{ReadTrace, read_front};
 use gcc_units::{MOST_CHECK_BYTES, MOST_LINES, NoMemory};
 use reply_text::{Verdict, check_history};
 use run_io::{Sink, Source};
@@ -50,41 +51,27 @@ fn ended_by(verdict: Verdict) -> Status
     }
 }
 
+/// The verdict on what a source gives to its end.
+fn source_verdict<S: Source>(alloc: Global, source: &mut S) -> Result<Verdict, Status>
+    ensures verdict { IfOk result (λ verdict. IfSome (S.left source.old) (λ bytes. Writes command.Check bytes (ended_by verdict) (verdict_text verdict))) }
+    ensures read { OnOk result (IsReadUp command.Check (S.left source.old) (S.left source.new)) }
+    ensures stop { IfErr result (λ ended. IsStop command.Check ended (S.left source.old) (S.faults source.old) (S.faults source.new)) }
+{
+    let bytes = read_all(alloc, source, MOST_CHECK_BYTES as usize)?;
+    Ok(verdict(alloc, bytes.as_slice())?)
+}
+
 /// Reads a trace and a printed history behind it to the end of the source, and writes the verdict
 /// on the history.
 pub fn run_check<S: Source, K: Sink>(alloc: Global, source: &mut S, sink: &mut K) -> Status
-    ensures words { result ≢ Status.Usage }
-    ensures read { IsEnded result → IsReadUp command.Check (S.left source.old) (S.left source.new) }
-    ensures done { IsEnded result → IfSome (S.left source.old) (λ bytes. Wrote command.Check bytes result (K.written sink.old) (K.written sink.new)) }
-    ensures bad { IfSome (S.left source.old) (NamesFault command.Check result) }
-    ensures read_fault { result ≡ Status.ReadFault → Rose (S.faults source.old) (S.faults source.new) }
-    ensures write_fault { result ≡ Status.WriteFault → Rose (K.faults sink.old) (K.faults sink.new) }
-    ensures part { result ≡ Status.WriteFault → IfSome (S.left source.old) (λ bytes. WroteInPart command.Check bytes (K.written sink.old) (K.written sink.new)) }
-    ensures complete { (Rose (S.faults source.old) (S.faults source.new) → ⊥) → (Rose (K.faults sink.old) (K.faults sink.new) → ⊥) → IsAnswered result }
-    ensures silent { IsSilent result (K.written sink.old) (K.written sink.new) }
+    ensures { IsServed command.Check result (streams (S.left source.old) (S.faults source.old) (K.written sink.old) (K.faults sink.old)) (streams (S.left source.new) (S.faults source.new) (K.written sink.new) (K.faults sink.new)) }
 {
-    let bytes = match read_all(alloc, source, MOST_CHECK_BYTES as usize) {
-        Ok(bytes) => bytes,
-        Err(ReadStop::Fault) => return Status::ReadFault,
-        Err(ReadStop::TooLong) => return Status::BadTrace {
-            line: 0,
-            reason: TOO_LONG,
-        },
-        Err(ReadStop::NoMemory) => return Status::NoMemory,
-    };
-    let verdict = match verdict(alloc, bytes.as_slice()) {
+    let verdict = match source_verdict(alloc, source) {
         Ok(verdict) => verdict,
-        Err(ReadTrace::Fault(fault)) => return Status::BadTrace {
-            line: fault.line,
-            reason: fault.reason,
-        },
-        Err(ReadTrace::NoMemory) => return Status::NoMemory,
+        Err(status) => return status,
     };
-    let Ok(text) = verdict_text(alloc, verdict) else {
-        return Status::NoMemory;
-    };
-    match write_all(sink, text.as_bytes()) {
-        Ok(()) => ended_by(verdict),
-        Err(_) => Status::WriteFault,
+    match verdict_text(alloc, verdict) {
+        Ok(text) => write_text(sink, text.as_bytes(), ended_by(verdict)),
+        Err(NoMemory) => Status::NoMemory,
     }
 }

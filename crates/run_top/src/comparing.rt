@@ -6,19 +6,20 @@ ghost use Rattle.gcc_units.specs.declared.shared_types.Credit.{Credit as CreditI
 ghost use Rattle.packet_groups.specs.Groups.{samples};
 ghost use Rattle.call_trace.specs.Ordered.{ordered};
 ghost use Rattle.call_trace.specs.Reading.{trace_at, FailsTrace};
-ghost use Rattle.run_io.specs.Faults.{Rose};
 ghost use Rattle.send_laws.specs.Credits.{credits};
 ghost use Rattle.send_laws.specs.InRange.{all_credits};
 ghost use Rattle.run_top.specs.declared.words.Command.TheVariants as command;
 ghost use Rattle.run_top.specs.Compared.{compared_line, compared_text, comparison, IsSoFar, TakesCredits, AreInRange, IsComparison};
-ghost use Rattle.run_top.specs.Outcome.{IsReadUp, IsEnded, IsSilent, IsAnswered, NamesFault, Wrote, WroteInPart};
+ghost use Rattle.run_top.specs.Outcome.{IsReadUp, Writes};
+ghost use Rattle.run_top.specs.Served.{IsServed, streams};
+ghost use Rattle.run_top.specs.Stops.{IsStop};
 
 use crate::beside::{Beside, Compared};
-use crate::reading::{ReadStop, read_all};
+use crate::reading::read_all;
 use crate::replay::{read_bytes, serve_lines};
 use crate::status::Status;
-use crate::writing::write_all;
-use call_trace::{ReadTrace, TOO_LONG, Trace};
+use crate::writing::write_text;
+use call_trace::{ReadTrace, Trace};
 use gcc_units::{Credit, MOST_LINES, MOST_TRACE_BYTES, NoMemory};
 use packet_groups::{Groups, samples_stay_few};
 use reply_text::push_signal;
@@ -152,39 +153,23 @@ fn compare_trace(alloc: Global, bytes: Vec<u8>) -> Result<String, ReadTrace>
     }
 }
 
+/// The comparison over the trace that a source gives to its end.
+fn source_text<S: Source>(alloc: Global, source: &mut S) -> Result<String, Status>
+    ensures text { IfOk result (λ text. IfSome (S.left source.old) (λ bytes. Writes command.Compare bytes Status.Done (string_bytes text))) }
+    ensures read { OnOk result (IsReadUp command.Compare (S.left source.old) (S.left source.new)) }
+    ensures stop { IfErr result (λ ended. IsStop command.Compare ended (S.left source.old) (S.faults source.old) (S.faults source.new)) }
+{
+    let bytes = read_all(alloc, source, MOST_TRACE_BYTES as usize)?;
+    Ok(compare_trace(alloc, bytes)?)
+}
+
 /// Reads a trace to the end of the source, serves its calls in the order of its lines, and writes
 /// what the filter and the trendline say of each sample.
 pub fn run_compare<S: Source, K: Sink>(alloc: Global, source: &mut S, sink: &mut K) -> Status
-    ensures words { result ≢ Status.Usage }
-    ensures same { (entry : ℕ) → result ≢ Status.Differs entry }
-    ensures read { IsEnded result → IsReadUp command.Compare (S.left source.old) (S.left source.new) }
-    ensures done { IsEnded result → IfSome (S.left source.old) (λ bytes. Wrote command.Compare bytes result (K.written sink.old) (K.written sink.new)) }
-    ensures bad { IfSome (S.left source.old) (NamesFault command.Compare result) }
-    ensures read_fault { result ≡ Status.ReadFault → Rose (S.faults source.old) (S.faults source.new) }
-    ensures write_fault { result ≡ Status.WriteFault → Rose (K.faults sink.old) (K.faults sink.new) }
-    ensures part { result ≡ Status.WriteFault → IfSome (S.left source.old) (λ bytes. WroteInPart command.Compare bytes (K.written sink.old) (K.written sink.new)) }
-    ensures complete { (Rose (S.faults source.old) (S.faults source.new) → ⊥) → (Rose (K.faults sink.old) (K.faults sink.new) → ⊥) → IsAnswered result }
-    ensures silent { IsSilent result (K.written sink.old) (K.written sink.new) }
+    ensures { IsServed command.Compare result (streams (S.left source.old) (S.faults source.old) (K.written sink.old) (K.faults sink.old)) (streams (S.left source.new) (S.faults source.new) (K.written sink.new) (K.faults sink.new)) }
 {
-    let bytes = match read_all(alloc, source, MOST_TRACE_BYTES as usize) {
-        Ok(bytes) => bytes,
-        Err(ReadStop::Fault) => return Status::ReadFault,
-        Err(ReadStop::TooLong) => return Status::BadTrace {
-            line: 0,
-            reason: TOO_LONG,
-        },
-        Err(ReadStop::NoMemory) => return Status::NoMemory,
-    };
-    let text = match compare_trace(alloc, bytes) {
-        Ok(text) => text,
-        Err(ReadTrace::Fault(fault)) => return Status::BadTrace {
-            line: fault.line,
-            reason: fault.reason,
-        },
-        Err(ReadTrace::NoMemory) => return Status::NoMemory,
-    };
-    match write_all(sink, text.as_bytes()) {
-        Ok(()) => Status::Done,
-        Err(_) => Status::WriteFault,
+    match source_text(alloc, source) {
+        Ok(text) => write_text(sink, text.as_bytes(), Status::Done),
+        Err(status) => status,
     }
 }

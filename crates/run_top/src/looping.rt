@@ -1,19 +1,18 @@
 //! What a closed loop over a stated link comes to.
 
-ghost use Rattle.std.specs.Prelude.{◌≡◌, ◌≢◌, ℕ, ◌≤◌, [], length, map, count_by, IfOk};
+ghost use Rattle.std.specs.Prelude.{◌≡◌, ℕ, ◌≤◌, Option, List, length, map, count_by, IfOk};
 ghost use Rattle.std.specs.String.{string_bytes};
 ghost use Rattle.twcc_report.specs.Spelling.{view};
 ghost use Rattle.sent_history.specs.Crediting.{is_received};
 ghost use Rattle.link_path.specs.KeptLink.{IsLink};
 ghost use Rattle.link_loop.specs.Looping.{looping};
-ghost use Rattle.run_io.specs.Faults.{Rose};
 ghost use Rattle.run_top.specs.declared.words.Command.TheVariants as command;
 ghost use Rattle.run_top.specs.Looped.{reported, fates_line, reported_line, end_lines, loop_text};
-ghost use Rattle.run_top.specs.Outcome.{IsEnded, IsSilent, IsAnswered, NamesFault, Wrote, WroteInPart};
+ghost use Rattle.run_top.specs.Served.{IsServed, streams};
 
 use crate::status::Status;
 use crate::summing::rates_text;
-use crate::writing::write_all;
+use crate::writing::write_text;
 use gcc_units::NoMemory;
 use link_loop::{LoopEnd, MOST_MILLIS, run_loop};
 use link_path::LinkSettings;
@@ -117,21 +116,10 @@ pub fn run_closed_loop<K: Sink>(
     requires link { IsLink settings }
     requires some { 1 ≤ millis }
     requires most { millis ≤ MOST_MILLIS }
-    ensures words { result ≢ Status.Usage }
-    ensures same { (entry : ℕ) → result ≢ Status.Differs entry }
-    ensures read { result ≢ Status.ReadFault }
-    ensures done { IsEnded result → Wrote (command.Loop settings millis) [] result (K.written sink.old) (K.written sink.new) }
-    ensures bad { NamesFault (command.Loop settings millis) result [] }
-    ensures write_fault { result ≡ Status.WriteFault → Rose (K.faults sink.old) (K.faults sink.new) }
-    ensures part { result ≡ Status.WriteFault → WroteInPart (command.Loop settings millis) [] (K.written sink.old) (K.written sink.new) }
-    ensures complete { (Rose (K.faults sink.old) (K.faults sink.new) → ⊥) → IsAnswered result }
-    ensures silent { IsSilent result (K.written sink.old) (K.written sink.new) }
+    ensures { (left : Option (List ℕ)) (faults : ℕ) → IsServed (command.Loop settings millis) result (streams left faults (K.written sink.old) (K.faults sink.old)) (streams left faults (K.written sink.new) (K.faults sink.new)) }
 {
-    let Ok(text) = loop_text(alloc, settings, millis) else {
-        return Status::NoMemory;
-    };
-    match write_all(sink, text.as_bytes()) {
-        Ok(()) => Status::Done,
-        Err(_) => Status::WriteFault,
+    match loop_text(alloc, settings, millis) {
+        Ok(text) => write_text(sink, text.as_bytes(), Status::Done),
+        Err(NoMemory) => Status::NoMemory,
     }
 }

@@ -1,15 +1,14 @@
 //! Made traces.
 
-ghost use Rattle.std.specs.Prelude.{◌≡◌, ◌≢◌, ℕ, ◌≤◌, [], IfOk};
+ghost use Rattle.std.specs.Prelude.{◌≡◌, ℕ, ◌≤◌, Option, List, IfOk};
 ghost use Rattle.gcc_units.specs.Listed.{bare};
-ghost use Rattle.run_io.specs.Faults.{Rose};
 ghost use Rattle.call_trace.specs.Making.{made};
 ghost use Rattle.call_trace.specs.Written.{trace_text};
 ghost use Rattle.run_top.specs.declared.words.Command.TheVariants as command;
-ghost use Rattle.run_top.specs.Outcome.{IsEnded, IsSilent, IsAnswered, NamesFault, Wrote, WroteInPart};
+ghost use Rattle.run_top.specs.Served.{IsServed, streams};
 
 use crate::status::Status;
-use crate::writing::write_all;
+use crate::writing::write_text;
 use call_trace::{make_trace, write_trace};
 use gcc_units::{Bytes, MOST_ACTORS, MOST_LINES, NoMemory};
 use run_io::Sink;
@@ -34,21 +33,10 @@ pub fn run_make<K: Sink>(alloc: Global, seed: u64, calls: u32, actors: u32, sink
     requires few { calls ≤ MOST_LINES }
     requires some_actor { 1 ≤ actors }
     requires few_actors { actors ≤ MOST_ACTORS }
-    ensures words { result ≢ Status.Usage }
-    ensures same { (entry : ℕ) → result ≢ Status.Differs entry }
-    ensures read { result ≢ Status.ReadFault }
-    ensures done { IsEnded result → Wrote (command.Make seed calls actors) [] result (K.written sink.old) (K.written sink.new) }
-    ensures bad { NamesFault (command.Make seed calls actors) result [] }
-    ensures write_fault { result ≡ Status.WriteFault → Rose (K.faults sink.old) (K.faults sink.new) }
-    ensures part { result ≡ Status.WriteFault → WroteInPart (command.Make seed calls actors) [] (K.written sink.old) (K.written sink.new) }
-    ensures complete { (Rose (K.faults sink.old) (K.faults sink.new) → ⊥) → IsAnswered result }
-    ensures silent { IsSilent result (K.written sink.old) (K.written sink.new) }
+    ensures { (left : Option (List ℕ)) (faults : ℕ) → IsServed (command.Make seed calls actors) result (streams left faults (K.written sink.old) (K.faults sink.old)) (streams left faults (K.written sink.new) (K.faults sink.new)) }
 {
-    let Ok(text) = made_text(alloc, seed, calls, actors) else {
-        return Status::NoMemory;
-    };
-    match write_all(sink, text.as_slice()) {
-        Ok(()) => Status::Done,
-        Err(_) => Status::WriteFault,
+    match made_text(alloc, seed, calls, actors) {
+        Ok(text) => write_text(sink, text.as_slice(), Status::Done),
+        Err(NoMemory) => Status::NoMemory,
     }
 }

@@ -1,6 +1,6 @@
 //! A race: the actors of a trace make their calls at the same time, on one shared sender.
 
-ghost use Rattle.std.specs.Prelude.{◌≡◌, ◌≢◌, ℕ, ◌^◌, ◌<◌, ◌≤◌, ◌++◌, ◌∷◌, [], ◌⊎◌, List, Some, length, map, All, IfOk, OnOk, IfSome};
+ghost use Rattle.std.specs.Prelude.{◌≡◌, ◌≢◌, ℕ, ◌^◌, ◌<◌, ◌≤◌, ◌++◌, ◌∷◌, [], ◌⊎◌, List, Some, length, map, All, IfOk, IfErr, OnOk, IfSome};
 ghost use Rattle.std.specs.List.{flat_map, range_with_len};
 ghost use Rattle.call_trace.specs.Plain.{plain, Fits};
 ghost use Rattle.call_trace.specs.Merge.{Merges};
@@ -8,16 +8,17 @@ ghost use Rattle.call_trace.specs.Reading.{trace_at};
 ghost use Rattle.send_core.specs.Reply.{IsLegal};
 ghost use Rattle.reply_text.specs.Legal.{AreGlancesOf};
 ghost use Rattle.run_top.specs.Racing.{AreWorked, IsReady, IsFresh, IsDone, AnyFull, keys, seat_of, actor_of, taken_by};
-ghost use Rattle.run_io.specs.Faults.{Rose};
 ghost use Rattle.run_top.specs.declared.words.Command.TheVariants as command;
-ghost use Rattle.run_top.specs.Outcome.{IsReadUp, IsEnded, IsSilent, IsAnswered, NamesFault, Wrote, WroteInPart};
+ghost use Rattle.run_top.specs.Outcome.{IsReadUp, Writes};
 ghost use Rattle.run_top.specs.Race.{GivesLegalText};
+ghost use Rattle.run_top.specs.Served.{IsServed, streams};
+ghost use Rattle.run_top.specs.Stops.{IsStop};
 
-use crate::reading::{ReadStop, read_all};
+use crate::reading::read_all;
 use crate::status::Status;
 use crate::workers::{Stop, Worker, work_all};
-use crate::writing::write_all;
-use call_trace::{Line, ReadTrace, TOO_LONG, Trace, read_trace};
+use crate::writing::write_text;
+use call_trace::{Line, ReadTrace, Trace, read_trace};
 use gcc_units::{Bytes, MOST_LINES, MOST_TRACE_BYTES, NoMemory};
 use reply_text::{SeenList, write_history};
 use run_io::{Gate, Sink, Source};
@@ -194,6 +195,21 @@ fn race_text<R: Threads + Wait + Sync, G: Gate + Sync>(
     }
 }
 
+/// The printed history of a race over the trace that a source gives to its end.
+fn source_text<R: Threads + Wait + Sync, S: Source, G: Gate + Sync>(
+    rt: &R,
+    alloc: Global,
+    source: &mut S,
+    gate: &G,
+) -> Result<Bytes, Status>
+    ensures text { IfOk result (λ text. IfSome (S.left source.old) (λ bytes. Writes command.Race bytes Status.Done text.items)) }
+    ensures read { OnOk result (IsReadUp command.Race (S.left source.old) (S.left source.new)) }
+    ensures stop { IfErr result (λ ended. IsStop command.Race ended (S.left source.old) (S.faults source.old) (S.faults source.new)) }
+{
+    let bytes = read_all(alloc, source, MOST_TRACE_BYTES as usize)?;
+    Ok(race_text(rt, alloc, gate, bytes.as_slice())?)
+}
+
 /// Reads a trace to the end of the source, races its actors, and writes the printed history.
 pub fn run_race<R: Threads + Wait + Sync, S: Source, K: Sink, G: Gate + Sync>(
     rt: &R,
@@ -202,36 +218,10 @@ pub fn run_race<R: Threads + Wait + Sync, S: Source, K: Sink, G: Gate + Sync>(
     sink: &mut K,
     gate: &G,
 ) -> Status
-    ensures words { result ≢ Status.Usage }
-    ensures same { (entry : ℕ) → result ≢ Status.Differs entry }
-    ensures read { IsEnded result → IsReadUp command.Race (S.left source.old) (S.left source.new) }
-    ensures done { IsEnded result → IfSome (S.left source.old) (λ bytes. Wrote command.Race bytes result (K.written sink.old) (K.written sink.new)) }
-    ensures bad { IfSome (S.left source.old) (NamesFault command.Race result) }
-    ensures read_fault { result ≡ Status.ReadFault → Rose (S.faults source.old) (S.faults source.new) }
-    ensures write_fault { result ≡ Status.WriteFault → Rose (K.faults sink.old) (K.faults sink.new) }
-    ensures part { result ≡ Status.WriteFault → IfSome (S.left source.old) (λ bytes. WroteInPart command.Race bytes (K.written sink.old) (K.written sink.new)) }
-    ensures complete { (Rose (S.faults source.old) (S.faults source.new) → ⊥) → (Rose (K.faults sink.old) (K.faults sink.new) → ⊥) → IsAnswered result }
-    ensures silent { IsSilent result (K.written sink.old) (K.written sink.new) }
+    ensures { IsServed command.Race result (streams (S.left source.old) (S.faults source.old) (K.written sink.old) (K.faults sink.old)) (streams (S.left source.new) (S.faults source.new) (K.written sink.new) (K.faults sink.new)) }
 {
-    let bytes = match read_all(alloc, source, MOST_TRACE_BYTES as usize) {
-        Ok(bytes) => bytes,
-        Err(ReadStop::Fault) => return Status::ReadFault,
-        Err(ReadStop::TooLong) => return Status::BadTrace {
-            line: 0,
-            reason: TOO_LONG,
-        },
-        Err(ReadStop::NoMemory) => return Status::NoMemory,
-    };
-    let text = match race_text(rt, alloc, gate, bytes.as_slice()) {
-        Ok(text) => text,
-        Err(ReadTrace::Fault(fault)) => return Status::BadTrace {
-            line: fault.line,
-            reason: fault.reason,
-        },
-        Err(ReadTrace::NoMemory) => return Status::NoMemory,
-    };
-    match write_all(sink, text.as_slice()) {
-        Ok(()) => Status::Done,
-        Err(_) => Status::WriteFault,
+    match source_text(rt, alloc, source, gate) {
+        Ok(text) => write_text(sink, text.as_slice(), Status::Done),
+        Err(status) => status,
     }
 }

@@ -7,15 +7,16 @@ ghost use Rattle.call_trace.specs.Reading.{trace_at, FailsTrace};
 ghost use Rattle.call_trace.specs.Plain.{plain, Fits};
 ghost use Rattle.call_trace.specs.Grammar.{IsTrace};
 ghost use Rattle.call_trace.specs.Ordered.{served, ordered};
-ghost use Rattle.run_io.specs.Faults.{Rose};
 ghost use Rattle.run_top.specs.declared.words.Command.TheVariants as command;
-ghost use Rattle.run_top.specs.Outcome.{IsReadUp, IsEnded, IsSilent, IsAnswered, NamesFault, Wrote, WroteInPart};
+ghost use Rattle.run_top.specs.Outcome.{IsReadUp, Writes};
+ghost use Rattle.run_top.specs.Served.{IsServed, streams};
+ghost use Rattle.run_top.specs.Stops.{IsStop};
 ghost use Rattle.run_top.specs.Replay.{looked, seen_from, of_actor, replayed, GivesText};
 
-use crate::reading::{ReadStop, read_all};
+use crate::reading::read_all;
 use crate::status::Status;
-use crate::writing::write_all;
-use call_trace::{Action, Line, LineList, ReadTrace, TOO_LONG, Trace, read_trace};
+use crate::writing::write_text;
+use call_trace::{Action, Line, LineList, ReadTrace, Trace, read_trace};
 use gcc_units::{Bytes, MOST_ENTRIES, MOST_LINES, MOST_TRACE_BYTES, NoMemory};
 use reply_text::{Seen, SeenList, write_history};
 use run_io::{Sink, Source};
@@ -125,38 +126,22 @@ fn print_trace(alloc: Global, trace: Trace) -> Result<Bytes, NoMemory>
     Ok(text)
 }
 
+/// The printed history of the trace that a source gives to its end.
+fn source_text<S: Source>(alloc: Global, source: &mut S) -> Result<Bytes, Status>
+    ensures text { IfOk result (λ text. IfSome (S.left source.old) (λ bytes. Writes command.Replay bytes Status.Done text.items)) }
+    ensures read { OnOk result (IsReadUp command.Replay (S.left source.old) (S.left source.new)) }
+    ensures stop { IfErr result (λ ended. IsStop command.Replay ended (S.left source.old) (S.faults source.old) (S.faults source.new)) }
+{
+    let bytes = read_all(alloc, source, MOST_TRACE_BYTES as usize)?;
+    Ok(replay(alloc, bytes)?)
+}
+
 /// Reads a trace to the end of the source, replays it, and writes the printed history.
 pub fn run_replay<S: Source, K: Sink>(alloc: Global, source: &mut S, sink: &mut K) -> Status
-    ensures words { result ≢ Status.Usage }
-    ensures same { (entry : ℕ) → result ≢ Status.Differs entry }
-    ensures read { IsEnded result → IsReadUp command.Replay (S.left source.old) (S.left source.new) }
-    ensures done { IsEnded result → IfSome (S.left source.old) (λ bytes. Wrote command.Replay bytes result (K.written sink.old) (K.written sink.new)) }
-    ensures bad { IfSome (S.left source.old) (NamesFault command.Replay result) }
-    ensures read_fault { result ≡ Status.ReadFault → Rose (S.faults source.old) (S.faults source.new) }
-    ensures write_fault { result ≡ Status.WriteFault → Rose (K.faults sink.old) (K.faults sink.new) }
-    ensures part { result ≡ Status.WriteFault → IfSome (S.left source.old) (λ bytes. WroteInPart command.Replay bytes (K.written sink.old) (K.written sink.new)) }
-    ensures complete { (Rose (S.faults source.old) (S.faults source.new) → ⊥) → (Rose (K.faults sink.old) (K.faults sink.new) → ⊥) → IsAnswered result }
-    ensures silent { IsSilent result (K.written sink.old) (K.written sink.new) }
+    ensures { IsServed command.Replay result (streams (S.left source.old) (S.faults source.old) (K.written sink.old) (K.faults sink.old)) (streams (S.left source.new) (S.faults source.new) (K.written sink.new) (K.faults sink.new)) }
 {
-    let bytes = match read_all(alloc, source, MOST_TRACE_BYTES as usize) {
-        Ok(bytes) => bytes,
-        Err(ReadStop::Fault) => return Status::ReadFault,
-        Err(ReadStop::TooLong) => return Status::BadTrace {
-            line: 0,
-            reason: TOO_LONG,
-        },
-        Err(ReadStop::NoMemory) => return Status::NoMemory,
-    };
-    let text = match replay(alloc, bytes) {
-        Ok(text) => text,
-        Err(ReadTrace::Fault(fault)) => return Status::BadTrace {
-            line: fault.line,
-            reason: fault.reason,
-        },
-        Err(ReadTrace::NoMemory) => return Status::NoMemory,
-    };
-    match write_all(sink, text.as_slice()) {
-        Ok(()) => Status::Done,
-        Err(_) => Status::WriteFault,
+    match source_text(alloc, source) {
+        Ok(text) => write_text(sink, text.as_slice(), Status::Done),
+        Err(status) => status,
     }
 }

@@ -4,7 +4,11 @@ ghost use Rattle.std.specs.Prelude.{◌≡◌, IfOk};
 ghost use Rattle.std.specs.String.{string_bytes};
 ghost use Rattle.gcc_units.specs.Listed.{bare};
 ghost use Rattle.run_top.specs.Ending.{code_of, place_text, text_of};
+ghost use Rattle.run_top.specs.Stops.{stopped_by, refused_by};
+ghost use Rattle.run_top.specs.declared.status.Status.TheVariants as statuses;
 
+use crate::reading::ReadStop;
+use call_trace::{ReadTrace, TOO_LONG};
 use gcc_units::{Bytes, NoMemory};
 use std::alloc::Global;
 
@@ -27,6 +31,43 @@ pub enum Status {
     /// `check` found that what stands behind the trace is no legal text for it: the place, as
     /// its verdict names it. The verdict was written.
     Differs { entry: u32 },
+}
+
+impl From<ReadStop> for Status {
+    ghost from_gives = { λ stop made. made ≡ stopped_by stop };
+
+    fn from(stop: ReadStop) -> Status {
+        match stop {
+            ReadStop::Fault => Status::ReadFault,
+            ReadStop::TooLong => Status::BadTrace {
+                line: 0,
+                reason: TOO_LONG,
+            },
+            ReadStop::NoMemory => Status::NoMemory,
+        }
+    }
+}
+
+impl From<ReadTrace> for Status {
+    ghost from_gives = { λ error made. made ≡ refused_by error };
+
+    fn from(error: ReadTrace) -> Status {
+        match error {
+            ReadTrace::Fault(fault) => Status::BadTrace {
+                line: fault.line,
+                reason: fault.reason,
+            },
+            ReadTrace::NoMemory => Status::NoMemory,
+        }
+    }
+}
+
+impl From<NoMemory> for Status {
+    ghost from_gives = { λ _ made. made ≡ statuses.NoMemory };
+
+    fn from(_error: NoMemory) -> Status {
+        Status::NoMemory
+    }
 }
 
 impl Status {

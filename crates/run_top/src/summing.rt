@@ -1,11 +1,10 @@
 //! The summary of a made trace that was replayed.
 
-ghost use Rattle.std.specs.Prelude.{◌≡◌, ◌≢◌, ℕ, ◌*◌, ◌<◌, ◌≤◌, ◌++◌, [], length, take, drop, IfOk};
+ghost use Rattle.std.specs.Prelude.{◌≡◌, ℕ, ◌*◌, ◌<◌, ◌≤◌, ◌++◌, [], Option, List, length, take, drop, IfOk};
 ghost use Rattle.std.specs.String.{string_bytes};
 ghost use Rattle.sent_history.specs.Crediting.{account, outstanding};
 ghost use Rattle.sent_history.specs.Balance.{expired};
 ghost use Rattle.estimator.specs.Est.{estimate};
-ghost use Rattle.run_io.specs.Faults.{Rose};
 ghost use Rattle.send_core.specs.Estimates.{est};
 ghost use Rattle.send_core.specs.History.{sent};
 ghost use Rattle.send_core.specs.Levels.{rate, window};
@@ -17,13 +16,13 @@ ghost use Rattle.call_trace.specs.Ordered.{ordered};
 ghost use Rattle.run_top.specs.declared.words.Command.TheVariants as command;
 ghost use Rattle.run_top.specs.Summary.{sent_line, kinds_line, kinds_of, balance_line, media_line, rates_line, summary};
 ghost use Rattle.run_top.specs.Totals.{totals_of};
-ghost use Rattle.run_top.specs.Outcome.{IsEnded, IsSilent, IsAnswered, NamesFault, Wrote, WroteInPart};
+ghost use Rattle.run_top.specs.Served.{IsServed, streams};
 
 use crate::replay::serve_lines;
 use crate::status::Status;
 use crate::told::estimates;
 use crate::totals::{Totals, count_sent};
-use crate::writing::write_all;
+use crate::writing::write_text;
 use call_trace::{made_traces_have_all_calls, make_trace};
 use gcc_units::{MOST_LINES, NoMemory};
 use run_io::Sink;
@@ -169,21 +168,10 @@ fn made_summary(alloc: Global, seed: u64, calls: u32) -> Result<String, NoMemory
 pub fn run_demo<K: Sink>(alloc: Global, seed: u64, calls: u32, sink: &mut K) -> Status
     requires some { 1 ≤ calls }
     requires few { calls ≤ MOST_LINES }
-    ensures words { result ≢ Status.Usage }
-    ensures same { (entry : ℕ) → result ≢ Status.Differs entry }
-    ensures read { result ≢ Status.ReadFault }
-    ensures done { IsEnded result → Wrote (command.Demo seed calls) [] result (K.written sink.old) (K.written sink.new) }
-    ensures bad { NamesFault (command.Demo seed calls) result [] }
-    ensures write_fault { result ≡ Status.WriteFault → Rose (K.faults sink.old) (K.faults sink.new) }
-    ensures part { result ≡ Status.WriteFault → WroteInPart (command.Demo seed calls) [] (K.written sink.old) (K.written sink.new) }
-    ensures complete { (Rose (K.faults sink.old) (K.faults sink.new) → ⊥) → IsAnswered result }
-    ensures silent { IsSilent result (K.written sink.old) (K.written sink.new) }
+    ensures { (left : Option (List ℕ)) (faults : ℕ) → IsServed (command.Demo seed calls) result (streams left faults (K.written sink.old) (K.faults sink.old)) (streams left faults (K.written sink.new) (K.faults sink.new)) }
 {
-    let Ok(text) = made_summary(alloc, seed, calls) else {
-        return Status::NoMemory;
-    };
-    match write_all(sink, text.as_bytes()) {
-        Ok(()) => Status::Done,
-        Err(_) => Status::WriteFault,
+    match made_summary(alloc, seed, calls) {
+        Ok(text) => write_text(sink, text.as_bytes(), Status::Done),
+        Err(NoMemory) => Status::NoMemory,
     }
 }

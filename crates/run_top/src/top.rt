@@ -1,12 +1,9 @@
 //! The top call.
 
-ghost use Rattle.std.specs.Prelude.{◌≡◌, ℕ, ◌↔◌, None, Some, [], IfSome};
-ghost use Rattle.run_io.specs.Faults.{Rose};
+ghost use Rattle.std.specs.Prelude.{IfSome};
 ghost use Rattle.run_top.specs.Words.{command_of, plain_command_of};
-ghost use Rattle.run_top.specs.declared.words.Command.{Command};
-ghost use Rattle.run_top.specs.declared.words.Command.TheVariants as command;
 ghost use Rattle.run_top.specs.Kept.{KeepsSource};
-ghost use Rattle.run_top.specs.Outcome.{IfTold, IsReadUp, IsEnded, IsSilent, IsAnswered, NamesFault, Wrote, WroteInPart};
+ghost use Rattle.run_top.specs.Served.{IsRun, streams};
 
 use crate::checking::run_check;
 use crate::comparing::run_compare;
@@ -38,28 +35,11 @@ pub fn run_plain<S: Source, K: Sink>(
     source: &mut S,
     sink: &mut K,
 ) -> Status
-    // The words alone decide on Usage, and nothing is read then.
-    ensures usage { (result ≡ Status.Usage) ↔ (plain_command_of words.now.items ≡ None) }
-    ensures unread { result ≡ Status.Usage → S.left source.new ≡ S.left source.old }
+    // The words alone decide on the command, and a command has its text, its causes and its beginnings.
+    ensures served { IsRun (plain_command_of words.now.items) result (streams (S.left source.old) (S.faults source.old) (K.written sink.old) (K.faults sink.old)) (streams (S.left source.new) (S.faults source.new) (K.written sink.new) (K.faults sink.new)) }
 
-    // At the end all was read, and what the command writes was written. A command that reads
-    // nothing leaves the source as it was, however it ends.
-    ensures read { IsEnded result → IfSome (plain_command_of words.now.items) (λ c. IsReadUp c (S.left source.old) (S.left source.new)) }
-    ensures done { IsEnded result → IfSome (plain_command_of words.now.items) (λ c. IfTold c (S.left source.old) (λ bytes. Wrote c bytes result (K.written sink.old) (K.written sink.new))) }
+    // A command that reads nothing leaves the source as it was, however it ends.
     ensures kept { IfSome (plain_command_of words.now.items) (λ c. KeepsSource c source.old source.new) }
-    ensures differs { (entry : ℕ) → result ≡ Status.Differs entry → plain_command_of words.now.items ≡ Some command.Check }
-
-    // Each fault has its cause.
-    ensures bad { IfSome (plain_command_of words.now.items) (λ c. IfTold c (S.left source.old) (NamesFault c result)) }
-    ensures read_fault { result ≡ Status.ReadFault → Rose (S.faults source.old) (S.faults source.new) }
-    ensures write_fault { result ≡ Status.WriteFault → Rose (K.faults sink.old) (K.faults sink.new) }
-
-    // With words that are accepted, and where no count rose, the run came to its end, or memory ran out, or the bytes are no trace.
-    ensures complete { IfSome (plain_command_of words.now.items) (λ c. (Rose (S.faults source.old) (S.faults source.new) → ⊥) → (Rose (K.faults sink.old) (K.faults sink.new) → ⊥) → IsAnswered result) }
-
-    // At a failed write a beginning of it was written, and else nothing.
-    ensures part { result ≡ Status.WriteFault → IfSome (plain_command_of words.now.items) (λ c. IfTold c (S.left source.old) (λ bytes. WroteInPart c bytes (K.written sink.old) (K.written sink.new))) }
-    ensures silent { IsSilent result (K.written sink.old) (K.written sink.new) }
 {
     match read_words(words) {
         Some(Command::Replay) => run_replay(alloc, source, sink),
@@ -92,28 +72,11 @@ pub fn run<R: Threads + Wait + Sync, S: Source, K: Sink, G: Gate + Sync>(
     sink: &mut K,
     gate: &G,
 ) -> Status
-    // The words alone decide on Usage, and nothing is read then.
-    ensures usage { (result ≡ Status.Usage) ↔ (command_of words.now.items ≡ None) }
-    ensures unread { result ≡ Status.Usage → S.left source.new ≡ S.left source.old }
+    // The words alone decide on the command, and a command has its text, its causes and its beginnings.
+    ensures served { IsRun (command_of words.now.items) result (streams (S.left source.old) (S.faults source.old) (K.written sink.old) (K.faults sink.old)) (streams (S.left source.new) (S.faults source.new) (K.written sink.new) (K.faults sink.new)) }
 
-    // At the end all was read, and what the command writes was written. A command that reads
-    // nothing leaves the source as it was, however it ends.
-    ensures read { IsEnded result → IfSome (command_of words.now.items) (λ c. IsReadUp c (S.left source.old) (S.left source.new)) }
-    ensures done { IsEnded result → IfSome (command_of words.now.items) (λ c. IfTold c (S.left source.old) (λ bytes. Wrote c bytes result (K.written sink.old) (K.written sink.new))) }
+    // A command that reads nothing leaves the source as it was, however it ends.
     ensures kept { IfSome (command_of words.now.items) (λ c. KeepsSource c source.old source.new) }
-    ensures differs { (entry : ℕ) → result ≡ Status.Differs entry → command_of words.now.items ≡ Some command.Check }
-
-    // Each fault has its cause.
-    ensures bad { IfSome (command_of words.now.items) (λ c. IfTold c (S.left source.old) (NamesFault c result)) }
-    ensures read_fault { result ≡ Status.ReadFault → Rose (S.faults source.old) (S.faults source.new) }
-    ensures write_fault { result ≡ Status.WriteFault → Rose (K.faults sink.old) (K.faults sink.new) }
-
-    // With words that are accepted, and where no count rose, the run came to its end, or memory ran out, or the bytes are no trace.
-    ensures complete { IfSome (command_of words.now.items) (λ c. (Rose (S.faults source.old) (S.faults source.new) → ⊥) → (Rose (K.faults sink.old) (K.faults sink.new) → ⊥) → IsAnswered result) }
-
-    // At a failed write a beginning of it was written, and else nothing.
-    ensures part { result ≡ Status.WriteFault → IfSome (command_of words.now.items) (λ c. IfTold c (S.left source.old) (λ bytes. WroteInPart c bytes (K.written sink.old) (K.written sink.new))) }
-    ensures silent { IsSilent result (K.written sink.old) (K.written sink.new) }
 {
     match read_words(words) {
         Some(Command::Race) => run_race(rt, alloc, source, sink, gate),

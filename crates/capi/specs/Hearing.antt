@@ -1,0 +1,62 @@
+-- What the reports of a compound packet do, one after the other.
+use Rattle.std.specs.Prelude.{◌≡◌, ◌<◌, ℕ, length, Option, None, Some, Result, Err, IfOk, IfErr, OnErr, List, [], ◌++◌, fold, filter}
+use Rattle.gcc_units.specs.Listed.{bare}
+use Rattle.rtcp_compound.specs.Compound.{ArePackets, FailsAt, is_feedback}
+use Rattle.send_core.specs.declared.call.Call.TheVariants.{Report}
+use Rattle.send_core.specs.declared.call.Cause.{Cause}
+use Rattle.send_core.specs.declared.call.Entry.{Entry}
+use Rattle.send_core.specs.declared.call.Reply.{Reply}
+use Rattle.send_core.specs.declared.call.Reply.TheVariants.{Refused}
+use Rattle.send_core.specs.Reply.{reply}
+use Rattle.live_sender.specs.Live.{Live, StandsFor}
+use Rattle.capi.specs.declared.fault.Fault.{Fault}
+use Rattle.capi.specs.declared.fault.Fault.TheVariants.{Compound}
+use Rattle.capi.specs.declared.fault.Fault.TheVariants as fault
+use Rattle.capi.specs.declared.sender.TheConstants.{MOST_BYTES}
+use Rattle.capi.specs.declared.feedback.Heard.{Heard}
+use Rattle.capi.specs.Serving.{Serving, with_call}
+
+-- why a reply refuses its call, if it does
+abbrev pub refusal_of : Reply → Option Cause
+refusal_of (Refused moment cause) = Some cause
+refusal_of given = None
+
+abbrev pub first_of : {X : Type 0} → Option X → Option X → Option X
+first_of None b = b
+first_of (Some a) b = Some a
+
+-- the history so far, and why the first refused report in it was refused
+pub record Course : Type 0 where
+  pub history : List Entry
+  pub refused : Option Cause
+
+abbrev pub with_report : ℕ → ℕ → Course → List ℕ → Course
+with_report caller at course report = record {
+  history = with_call course.history caller (Report at (bare report));
+  refused = first_of course.refused (refusal_of (reply course.history (Report at (bare report))));
+}
+
+-- each of these reports is a call at the end of the history before it
+abbrev pub course_of : List Entry → ℕ → ℕ → List (List ℕ) → Course
+course_of history caller at reports = fold (with_report caller at) (record { history = history; refused = None }) reports
+
+-- the reports were served in their order, all of them unless what is told says why it stopped
+pub record AreHeard (first now : Live) (at : ℕ) (heard : Heard) (reports : List (List ℕ)) : Type 0 where
+  pub served : List (List ℕ)
+  pub rest : List (List ℕ)
+  pub whole : reports ≡ served ++ rest
+  pub all : heard.stopped ≡ None → rest ≡ []
+  pub stands : (history : List Entry) (caller : ℕ) → StandsFor first history → StandsFor now (course_of history caller at served).history
+  pub refused : (history : List Entry) (caller : ℕ) → StandsFor first history → heard.refused ≡ (course_of history caller at served).refused
+
+abbrev pub IfCompound : Fault → (ℕ → Type 0) → Type 0
+IfCompound (Compound place) P = P place
+IfCompound fault P = Unit {0}
+
+-- A compound packet came: each transport-wide report in it is a call. Where it is no compound packet, nothing has changed.
+pub record Hears (before after : Serving) (at : ℕ) (rtcp : List ℕ) (outcome : Result Heard Fault) : Type 0 where
+  pub served : IfOk outcome (λ heard. (packets : List (List ℕ)) × ArePackets packets rtcp × AreHeard before.live after.live at heard (filter is_feedback packets))
+  pub place : IfErr outcome (λ e. IfCompound e (FailsAt rtcp))
+  pub unserved : OnErr outcome (after ≡ before)
+  pub kept : after.kept ≡ before.kept
+  pub size : MOST_BYTES < length rtcp → outcome ≡ Err fault.BadSize

@@ -1,0 +1,6 @@
+pub mod Serving
+pub mod Codes
+pub mod Outcomes
+pub mod Hearing
+pub mod Looking
+pub mod Changing

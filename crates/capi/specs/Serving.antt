@@ -1,0 +1,77 @@
+-- What a sender of the C library stands for.
+use Rattle.std.specs.Prelude.{◌≡◌, ℕ, ◌<◌, length, Option, Result, Ok, Err, Bool, true, false, List, [], ◌∷◌, ◌++◌, drop, zip, slice_get}
+use Rattle.gcc_units.specs.declared.class.Class.{Class}
+use Rattle.gcc_units.specs.declared.class.Class.TheVariants as class
+use Rattle.pacer.specs.declared.sent.Sent.{Sent}
+use Rattle.send_core.specs.declared.call.Call.{Call}
+use Rattle.send_core.specs.declared.call.Call.TheVariants.{Pace}
+use Rattle.send_core.specs.declared.call.Entry.{Entry}
+use Rattle.send_core.specs.declared.call.Reply.{Reply}
+use Rattle.send_core.specs.declared.call.Reply.TheVariants.{Accepted, Refused}
+use Rattle.capi.specs.declared.fault.Fault.{Fault}
+use Rattle.capi.specs.declared.fault.Fault.TheVariants as fault
+use Rattle.capi.specs.declared.popping.Popped.{Popped}
+use Rattle.capi.specs.declared.popping.Popped.TheVariants.{Packet, Nothing, TooSmall}
+use Rattle.send_core.specs.History.{entry, sent_by}
+use Rattle.send_core.specs.Reply.{reply}
+use Rattle.send_core.specs.Wires.{wires}
+use Rattle.live_sender.specs.Live.{Live, StandsFor}
+
+-- a packet that left: its record, and its bytes
+abbrev pub Leaving : Type 0
+Leaving = Sent × List ℕ
+
+-- the live sender, and the packets of its last pace that were not fetched yet
+pub record Serving : Type 0 where
+  pub live : Live
+  pub kept : List Leaving
+
+-- those behind the first so many of the last pace
+abbrev pub kept_from : ℕ → List Sent → List (List ℕ) → List Leaving
+kept_from n sent packets = drop n (zip sent packets)
+
+-- the history with one more call and its reply at its end
+abbrev pub with_call : List Entry → ℕ → Call → List Entry
+with_call history caller call = history ++ entry caller call (reply history call) ∷ []
+
+-- what stood for a history stands for it with this call, whoever made it
+abbrev pub Serves : Live → Live → Call → Type 0
+Serves before after call = (history : List Entry) (caller : ℕ) → StandsFor before history → StandsFor after (with_call history caller call)
+
+-- the packets that leave with a pace
+abbrev pub leaving : List Entry → ℕ → List Leaving
+leaving history at = let given = reply history (Pace at) in zip (sent_by given) (wires history given)
+
+-- the classes by their numbers
+abbrev pub class_named : ℕ → Option Class
+class_named n = slice_get (class.Audio ∷ class.Retransmission ∷ class.Video ∷ class.Fec ∷ []) n
+
+-- what a packet that was handed in is told: its index, or why it was refused (no other reply is one to a packet)
+abbrev pub index_of : Reply → Result ℕ Fault
+index_of (Accepted moment index) = Ok index
+index_of (Refused moment cause) = Err (fault.Refused cause)
+index_of given = Ok 0
+
+-- ---- pops
+
+abbrev pub has_any : {X : Type 0} → List X → Bool
+has_any [] = false
+has_any (x ∷ xs) = true
+
+-- what a pop at this moment looks at: what was kept, or else what one pace sends
+abbrev pub filled : List Entry → ℕ → List Leaving → List Leaving
+filled history at [] = leaving history at
+filled history at (p ∷ ps) = p ∷ ps
+
+-- the history after it
+abbrev pub popped : List Entry → ℕ → ℕ → List Leaving → List Entry
+popped history caller at [] = with_call history caller (Pace at)
+popped history caller at (p ∷ ps) = history
+
+-- A pop hands out the first packet into the front of the room; or there is none; or the room is smaller than the
+-- first packet, which stays the first.
+abbrev pub IsFetched : Popped → List Leaving → List Leaving → List ℕ → List ℕ → Type 0
+IsFetched (Packet sent size) before after old new = (bytes : List ℕ) × (before ≡ (sent, bytes) ∷ after) × (size ≡ length bytes) × (new ≡ bytes ++ drop size old)
+IsFetched Nothing before after old new = (before ≡ []) × (after ≡ []) × (new ≡ old)
+IsFetched (TooSmall size) before after old new =
+    (first : Leaving) × (rest : List Leaving) × (before ≡ first ∷ rest) × (after ≡ before) × (size ≡ length first.1) × (length old < size) × (new ≡ old)

@@ -1,0 +1,160 @@
+//! Feedback as a network hands it over.
+
+ghost use Rattle.std.specs.Prelude.{◌≡◌, ◌≤◌, ◌++◌, ◌∷◌, ℕ, None, List, [], IfOk, IfErr, OnOk, OnErr, drop, take, length, map, filter};
+ghost use Rattle.gcc_units.specs.Listed.{bare};
+ghost use Rattle.rtcp_compound.specs.Compound.{ArePackets, FailsAt, is_feedback, part_of};
+ghost use Rattle.send_core.specs.declared.call.Call.TheVariants as call;
+ghost use Rattle.send_core.specs.declared.call.Entry.{Entry};
+ghost use Rattle.send_core.specs.Reply.{reply};
+ghost use Rattle.live_sender.specs.Live.{Live, StandsFor};
+ghost use Rattle.capi.specs.Serving.{Serves};
+ghost use Rattle.capi.specs.Hearing.{refusal_of, first_of, AreHeard, IfCompound, Hears};
+
+use crate::fault::{Fault, fault_of};
+use crate::sender::{MOST_BYTES, Sender, copied};
+use rtcp_compound::{Part, PartList, ReadCompound, feedback_parts};
+use send_core::{Cause, Reply};
+use std::alloc::Global;
+
+/// What came of the reports of a compound packet.
+#[derive(Clone, Copy, PartialEq, Eq, Debug)]
+pub struct Heard {
+    /// Why the first report that was refused was refused.
+    pub refused: Option<Cause>,
+    /// Why a report and those behind it were not served.
+    pub stopped: Option<Fault>,
+}
+
+// The bytes from a place on.
+#[tactic(auto, using(crate::proofs::Hearing::drop_all))]
+fn behind(bytes: &[u8], start: usize) -> &[u8]
+    ensures { result.now ≡ drop start bytes.now }
+{
+    if start >= bytes.len() {
+        return &[];
+    }
+    &bytes[start..]
+}
+
+// The first bytes, so many.
+#[tactic(auto, using(crate::proofs::Hearing::take_all))]
+fn front(bytes: &[u8], len: usize) -> &[u8]
+    ensures { result.now ≡ take len bytes.now }
+{
+    if len >= bytes.len() {
+        return bytes;
+    }
+    &bytes[..len]
+}
+
+// The bytes of a part.
+#[tactic(auto, using(crate::proofs::Hearing::part_within))]
+fn part_bytes<'a>(bytes: &'a [u8], part: &Part) -> &'a [u8]
+    ensures part { result.now ≡ part_of bytes.now part.now }
+    ensures within { length result.now ≤ length bytes.now }
+{
+    front(behind(bytes, part.start as usize), part.len as usize)
+}
+
+// Why a reply refuses its call.
+fn refusal_of(reply: &Reply) -> Option<Cause>
+    ensures { result ≡ refusal_of reply.now }
+{
+    match reply {
+        Reply::Refused { cause, .. } => Some(*cause),
+        _ => None,
+    }
+}
+
+// The first of two, if there is one.
+fn first_of(first: Option<Cause>, second: Option<Cause>) -> Option<Cause>
+    ensures { result ≡ first_of first second }
+{
+    match first {
+        Some(cause) => Some(cause),
+        None => second,
+    }
+}
+
+// The reports of a compound packet.
+fn parts_of(alloc: Global, rtcp: &[u8]) -> Result<PartList, Fault>
+    requires { length rtcp.now ≤ MOST_BYTES }
+    ensures found { IfOk result (λ parts. (packets : List (List ℕ)) × ArePackets packets rtcp.now × (map (part_of rtcp.now) parts.items ≡ filter is_feedback packets)) }
+    ensures place { IfErr result (λ e. IfCompound e (FailsAt rtcp.now)) }
+{
+    match feedback_parts(alloc, rtcp) {
+        Ok(parts) => Ok(parts),
+        Err(ReadCompound::NoPacket(place)) => Err(Fault::Compound(place)),
+        Err(ReadCompound::NoMemory) => Err(Fault::NoMemory),
+    }
+}
+
+impl Sender {
+    // Serves one report, and says why it was refused, if it was. On `Err` nothing has changed.
+    fn hear_one(&mut self, alloc: Global, at: u64, report: &[u8]) -> Result<Option<Cause>, Fault>
+        requires { length report.now ≤ MOST_BYTES }
+        ensures refusal { IfOk result (λ r. (history : List Entry) → StandsFor self.old.live history → r ≡ refusal_of (reply history (call.Report at (bare report.now)))) }
+        ensures stands { OnOk result (Serves self.old.live self.new.live (call.Report at (bare report.now))) }
+        ensures kept { self.new.kept ≡ self.old.kept }
+        ensures err { OnErr result (self.new ≡ self.old) }
+    {
+        let bytes = copied(alloc, report)?;
+        match self.live.report(alloc, at, &bytes) {
+            Ok(reply) => Ok(refusal_of(&reply)),
+            Err(fault) => Err(fault_of(fault)),
+        }
+    }
+
+    // Serves one report more.
+    fn hear_next(&mut self, alloc: Global, at: u64, heard: &mut Heard, report: &[u8])
+        requires size { length report.now ≤ MOST_BYTES }
+        requires going { heard.old.stopped ≡ None }
+        ensures heard { (first : Live) (reports : List (List ℕ)) → AreHeard first self.old.live at heard.old reports → AreHeard first self.new.live at heard.new (reports ++ report.now ∷ []) }
+        ensures kept { self.new.kept ≡ self.old.kept }
+    {
+        match self.hear_one(alloc, at, report) {
+            Ok(refusal) => heard.refused = first_of(heard.refused, refusal),
+            Err(fault) => heard.stopped = Some(fault),
+        }
+    }
+
+    // Serves one report more, unless an earlier one was not served.
+    fn hear(&mut self, alloc: Global, at: u64, heard: &mut Heard, report: &[u8])
+        requires { length report.now ≤ MOST_BYTES }
+        ensures heard { (first : Live) (reports : List (List ℕ)) → AreHeard first self.old.live at heard.old reports → AreHeard first self.new.live at heard.new (reports ++ report.now ∷ []) }
+        ensures kept { self.new.kept ≡ self.old.kept }
+    {
+        match heard.stopped {
+            Some(_fault) => (),
+            None => self.hear_next(alloc, at, heard, report),
+        }
+    }
+
+    // Serves the reports in their order.
+    fn hear_parts(&mut self, alloc: Global, at: u64, rtcp: &[u8], parts: PartList) -> Heard
+        requires { length rtcp.now ≤ MOST_BYTES }
+        ensures heard { AreHeard self.old.live self.new.live at result (map (part_of rtcp.now) parts.items) }
+        ensures kept { self.new.kept ≡ self.old.kept }
+    {
+        let mut heard = Heard {
+            refused: None,
+            stopped: None,
+        };
+        for part in parts.into_vec() {
+            self.hear(alloc, at, &mut heard, part_bytes(rtcp, &part));
+        }
+        heard
+    }
+
+    /// RTCP came, compound or of reduced size: each transport-wide report in it is served, in their
+    /// order, and others are passed over. On `Err` nothing has changed.
+    pub fn feedback(&mut self, alloc: Global, at: u64, rtcp: &[u8]) -> Result<Heard, Fault>
+        ensures { Hears self.old self.new at rtcp.now result }
+    {
+        if rtcp.len() > MOST_BYTES {
+            return Err(Fault::BadSize);
+        }
+        let parts = parts_of(alloc, rtcp)?;
+        Ok(self.hear_parts(alloc, at, rtcp, parts))
+    }
+}

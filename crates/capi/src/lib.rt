@@ -1,0 +1,19 @@
+//! The bodies of the C library's calls, in plain Rust: a sender that hands out one packet at a time,
+//! and a number for each cause.
+#![tactic(auto)]
+
+mod changing;
+mod fault;
+mod feedback;
+mod looking;
+mod popping;
+mod sender;
+mod telling;
+
+pub use changing::{Settings, StreamGiven};
+pub use fault::Fault;
+pub use feedback::Heard;
+pub use looking::{RatesTold, ShareTold, StatsTold};
+pub use popping::Popped;
+pub use sender::Sender;
+pub use telling::{Info, NO_INDEX, tell_done, tell_heard, tell_index, tell_popped, tell_share};

@@ -1,0 +1,38 @@
+/* One packet of video and one of audio are sent, and a report credits both. */
+#include "lulqoter.h"
+
+#include <stdio.h>
+#include <string.h>
+
+#define WANT(what) \
+  if (!(what)) return printf("line %d: %s\n", __LINE__, #what), 1
+
+int main(void) {
+  static const uint8_t video[20] = {0x90, 0x60, 0, 1, 0, 0, 0, 0, 0, 0, 0, 0xaa, 0xbe, 0xde, 0, 1, 0x31, 0, 0, 0};
+  static const uint8_t report[24] = {0x8f, 0xcd, 0, 5, 0, 0, 0, 1, 0, 0, 0, 2, 0, 0, 0, 2, 0, 0, 1, 0, 0x20, 2, 4, 4};
+  lulq_sender sender = LULQ_SENDER_INIT;
+  uint8_t room[1500];
+  size_t size = 0;
+  uint32_t index = 9, place = 0;
+  lulq_info info;
+  lulq_rates rates;
+  lulq_stats stats;
+  WANT(lulq_abi() == LULQ_ABI);
+  WANT(lulq_sender_new(&sender) == LULQ_OK);
+  WANT(lulq_sender_enqueue(&sender, 1000, LULQ_VIDEO, video, sizeof video, &index) == LULQ_OK && index == 0);
+  WANT(lulq_sender_enqueue(&sender, 1000, LULQ_AUDIO, video, sizeof video, &index) == LULQ_OK && index == 1);
+  WANT(lulq_sender_pop(&sender, 2000, room, 10, &size, &info) == LULQ_TOO_SMALL && size == 20);
+  WANT(lulq_sender_pop(&sender, 2000, room, sizeof room, &size, &info) == LULQ_OK);
+  WANT(size == 20 && info.number == 0 && info.index == 1 && info.kind == LULQ_KIND_AUDIO && room[18] == 0);
+  WANT(lulq_sender_pop(&sender, 2000, room, sizeof room, &size, &info) == LULQ_OK);
+  WANT(size == 20 && info.number == 1 && info.index == 0 && info.kind == LULQ_KIND_MEDIA && room[18] == 1);
+  WANT(lulq_sender_pop(&sender, 2000, room, sizeof room, &size, &info) == LULQ_NOTHING);
+  WANT(lulq_sender_feedback(&sender, 3000, report, sizeof report, &place) == LULQ_OK);
+  WANT(lulq_sender_stats(&sender, &stats) == LULQ_OK);
+  WANT(stats.sent == 2 && stats.accepted == 2 && stats.waiting == 0 && stats.outstanding == 0 && stats.judged == 1);
+  WANT(lulq_sender_rates(&sender, &rates) == LULQ_OK && rates.target == 300000 && rates.pacing == 750000);
+  WANT(strcmp(lulq_strerror(LULQ_E_NOT_OPEN), "the handle has no sender") == 0);
+  lulq_sender_free(&sender);
+  WANT(lulq_sender_rates(&sender, &rates) == LULQ_E_NOT_OPEN);
+  return 0;
+}

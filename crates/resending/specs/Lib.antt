@@ -1,0 +1,4 @@
+pub mod Serving
+pub mod Alone
+pub mod Standing
+pub mod NackText

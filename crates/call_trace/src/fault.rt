@@ -38,6 +38,12 @@ pub const BEHIND_END: u32 = 11;
 /// The source is longer than a trace may be. Line 0 has this reason, and no other line.
 pub const TOO_LONG: u32 = 12;
 
+/// The header names more actors than one, where a trace of one actor is asked for. Line 1 has this reason.
+pub const MANY_ACTORS: u32 = 13;
+
+/// There are more lines of action than are served where lost packets are sent again. Line 0 has this reason.
+pub const MANY_LINES: u32 = 14;
+
 /// The first bad line, and why it is bad.
 #[derive(Clone, Copy, PartialEq, Eq, Debug)]
 pub struct TraceFault {

@@ -23,8 +23,8 @@ mod writing;
 
 pub use copies::copy_call;
 pub use fault::{
-    BEHIND_END, NO_ACTOR, NO_END, NO_HEADER, NO_HEX, NO_MOMENT, NO_OBJECT, NO_VERB, ReadTrace,
-    TOO_LONG, TOO_MANY_LINES, TraceFault, WRONG_KEY, WRONG_VALUE,
+    BEHIND_END, MANY_ACTORS, MANY_LINES, NO_ACTOR, NO_END, NO_HEADER, NO_HEX, NO_MOMENT, NO_OBJECT,
+    NO_VERB, ReadTrace, TOO_LONG, TOO_MANY_LINES, TraceFault, WRONG_KEY, WRONG_VALUE,
 };
 pub use fields::{cut, number};
 pub use laws::{

@@ -1,8 +1,9 @@
 -- A command is read just where the words ask for it.
-use Rattle.std.proofs.Common.{◌≡◌, ℕ, zero, suc, ◌≤◌, true, false, ◌&&◌, cond, nat_eq, nat_le, List, [], ◌∷◌, ◌++◌, length, take, drop, append_assoc, length-append, Option, None, Some, inl, inr, ◌⊎◌, refl, sym, ap, subst, ◌∙◌, arith}
-use Rattle.std.specs.Prelude.{codes}
+use Rattle.std.proofs.Common.{◌≡◌, ℕ, zero, suc, ◌≤◌, ◌==◌, Bool, true, false, ◌&&◌, cond, nat_eq, nat_le, List, [], ◌∷◌, ◌++◌, length, take, drop, append_assoc, length-append, Option, None, Some, inl, inr, ◌⊎◌, refl, sym, ap, subst, ◌∙◌, arith}
+use Rattle.std.specs.Prelude.{codes, ◌≢◌}
 use Rattle.std.specs.Str.{bytes_eq}
 use Rattle.std.specs.Cmp.Lexicographic.{pointwise}
+use Rattle.std.proofs.lemmas.Bool.Decides.{nat_tests}
 use Rattle.std.proofs.lemmas.Bool.{and_parts, and_from, leb-true, le-leb, false_from_ne_true}
 use Rattle.std.proofs.lemmas.List.{take-append-drop, append-nil, take_at, drop_at}
 use Rattle.std.proofs.lemmas.Slice.Eq.{bytes_eq-Decides}
@@ -13,12 +14,15 @@ use Rattle.link_path.specs.declared.TheConstants.{LEAST_QUEUE, GREATEST_QUEUE, L
 use Rattle.link_path.specs.declared.link.LinkSettings.{LinkSettings}
 use Rattle.link_path.specs.KeptLink.{IsLink}
 use Rattle.link_loop.specs.declared.TheConstants.{MOST_MILLIS}
+use Rattle.nack_rtx.specs.declared.resender.RtxSettings.{RtxSettings}
+use Rattle.resending.specs.declared.serving.TheConstants.{MOST_REPEATS}
+use Rattle.run_top.specs.declared.words.TheConstants.{GREATEST_SSRC, GREATEST_PAYLOAD}
 use Rattle.run_top.specs.declared.words.Command.{Command}
 use Rattle.run_top.specs.declared.words.Command.TheVariants as command
 use Rattle.run_top.specs.declared.options.Name.{Name}
 use Rattle.run_top.specs.declared.options.Name.TheVariants as name
 use Rattle.run_top.specs.declared.options.Given.{Given}
-use Rattle.run_top.specs.Words.{◌>>=◌, is_text, name_text, given, stripped, in_two, in_one, option_of, or_else, names, Taken, option_among, option_at, options_at, number_for, within, alone, make_at, demo_at, link_settings, settings_in, loop_at, command_of, IsFromTo}
+use Rattle.run_top.specs.Words.{◌>>=◌, is_text, name_text, given, stripped, in_two, in_one, option_of, or_else, names, Taken, option_among, option_at, options_at, number_for, within, alone, make_at, demo_at, link_settings, settings_in, loop_at, apart, rtx_settings, rtx_in, resend_at, command_of, IsFromTo, IsAllowed}
 use Rattle.run_top.specs.Asking.{texts, IsOption, AreOptions, HaveOptions, Asks}
 use Rattle.run_top.proofs.Decimals.{number_is, is_number}
 use Rattle.run_top.proofs.InOrder.{cond_some, name_is_same, as_many, AreApart, AreFound, find_all, in_order}
@@ -43,6 +47,9 @@ demo_options seed calls = given name.Seed seed ∷ given name.Calls calls ∷ []
 abbrev loop_options : LinkSettings → ℕ → List Given
 loop_options s millis = given name.Rate s.rate ∷ given name.Queue s.queue ∷ given name.Delay s.delay ∷ given name.Millis millis ∷ []
 
+abbrev resend_options : RtxSettings → List Given
+resend_options s = given name.Media s.media ∷ given name.Rtx s.rtx ∷ given name.Payload s.payload ∷ given name.Repeats s.repeats ∷ []
+
 make_apart : (seed calls actors : ℕ) → AreApart (make_options seed calls actors)
 make_apart seed calls actors = ((refl, (refl, tt)), ((refl, tt), (tt, tt)))
 
@@ -51,6 +58,9 @@ demo_apart seed calls = ((refl, tt), (tt, tt))
 
 loop_apart : (s : LinkSettings) (millis : ℕ) → AreApart (loop_options s millis)
 loop_apart s millis = ((refl, (refl, (refl, tt))), ((refl, (refl, tt)), ((refl, tt), (tt, tt))))
+
+resend_apart : (s : RtxSettings) → AreApart (resend_options s)
+resend_apart s = ((refl, (refl, (refl, tt))), ((refl, (refl, tt)), ((refl, tt), (tt, tt))))
 
 then_some : {A B : Type 0} (o : Option A) (f : A → Option B) (y : B) → (o >>= f) ≡ Some y → (x : A) × (o ≡ Some x) × (f x ≡ Some y)
 then_some None f y e = absurd cc
@@ -225,6 +235,56 @@ loop_is word words c titled e =
     subst (Asks (texts (word ∷ words))) (some_is _ c millis.2)
     (texts words, ap (λ t. t ∷ texts words) titled, read, are.3, few.1)
 
+-- the settings that were read, and that are allowed
+abbrev AreRtx : List Given → RtxSettings → Type 0
+AreRtx options s =
+    (number_for name.Media options ≡ Some s.media) × (number_for name.Rtx options ≡ Some s.rtx) × (number_for name.Payload options ≡ Some s.payload)
+    × (number_for name.Repeats options ≡ Some s.repeats) × IsAllowed s
+
+apart_is : (s t : RtxSettings) → apart s ≡ Some t → (s.media ≢ s.rtx) × (s ≡ t)
+apart_is s t e = by (s.media == s.rtx) refl e
+  where
+    by : (b : Bool) → (s.media == s.rtx) ≡ b → cond b None (Some s) ≡ Some t → (s.media ≢ s.rtx) × (s ≡ t)
+    by true same e = absurd cc
+    by false other e = (λ same. grind (arith, nat_tests, other, same), some_is s t e)
+
+rtx_are : (options : List Given) (s : RtxSettings) → rtx_in options ≡ Some s → AreRtx options s
+unfolding rtx_in
+rtx_are options s e =
+    let media = then_some (number_for name.Media options >>= within 0 GREATEST_SSRC) _ s e in
+    let rtx = then_some (number_for name.Rtx options >>= within 0 GREATEST_SSRC) _ s media.2 in
+    let payload = then_some (number_for name.Payload options >>= within 0 GREATEST_PAYLOAD) _ s rtx.2 in
+    let repeats = then_some (number_for name.Repeats options >>= within 1 MOST_REPEATS) _ s payload.2 in
+    let medias = number_within 0 GREATEST_SSRC (number_for name.Media options) media.0 media.1 in
+    let rtxs = number_within 0 GREATEST_SSRC (number_for name.Rtx options) rtx.0 rtx.1 in
+    let payloads = number_within 0 GREATEST_PAYLOAD (number_for name.Payload options) payload.0 payload.1 in
+    let few = number_within 1 MOST_REPEATS (number_for name.Repeats options) repeats.0 repeats.1 in
+    let own = apart_is (rtx_settings media.0 rtx.0 payload.0 repeats.0) s repeats.2 in
+    subst (AreRtx options) own.1 (
+      medias.0,
+      rtxs.0,
+      payloads.0,
+      few.0,
+      record {
+        media = medias.1.1;
+        rtx = rtxs.1.1;
+        apart = own.0;
+        payload = payloads.1.1;
+        some = few.1.0;
+        few = few.1.1;
+      },
+    )
+
+resend_is : (word : Word) (words : Words) (c : Command) → word.items ≡ codes "resend" → resend_at words ≡ Some c → Asks (texts (word ∷ words)) c
+unfolding resend_at
+resend_is word words c titled e =
+    let options = then_some (options_at 4 words) _ c e in
+    let settings = then_some (rtx_in options.0) _ c options.2 in
+    let are = rtx_are options.0 settings.0 settings.1 in
+    let read = have (resend_options settings.0) words options.0 (resend_apart settings.0) options.1 (are.0, (are.1, (are.2, (are.3, tt)))) in
+    subst (Asks (texts (word ∷ words))) (some_is _ c settings.2)
+    (texts words, ap (λ t. t ∷ texts words) titled, read, are.4)
+
 titled : (word : Word) (title : List ℕ) → is_text word title ≡ true → word.items ≡ title
 titled word title e = (bytes_eq-Decides word.items title).0 e
 
@@ -244,9 +304,12 @@ asks (word ∷ words) c e =
               | inl a ↦ make_is word words c (titled word (codes "make") a.0) a.1
               | inr g ↦ elim (cond_some (is_text word (codes "demo")) (demo_at words) _ c g.1) [
                 | inl a ↦ demo_is word words c (titled word (codes "demo") a.0) a.1
-                | inr h ↦ elim (cond_some (is_text word (codes "loop")) (loop_at words) None c h.1) [
+                | inr h ↦ elim (cond_some (is_text word (codes "loop")) (loop_at words) _ c h.1) [
                   | inl a ↦ loop_is word words c (titled word (codes "loop") a.0) a.1
-                  | inr l ↦ absurd (let no : None ≡ Some c = l.1 in cc)
+                  | inr l ↦ elim (cond_some (is_text word (codes "resend")) (resend_at words) None c l.1) [
+                    | inl a ↦ resend_is word words c (titled word (codes "resend") a.0) a.1
+                    | inr m ↦ absurd (let no : None ≡ Some c = m.1 in cc)
+                  ]
                 ]
               ]
             ]
@@ -401,6 +464,26 @@ loop_read words s millis has link few =
     let millis_in : (number_for name.Millis options >>= within 1 MOST_MILLIS) ≡ Some millis = within_gives 1 MOST_MILLIS millis (number_for name.Millis options) millis_is few in
     rw (read, rate_in, queue_in, delay_in, millis_in)
 
+apart_gives : (s : RtxSettings) → s.media ≢ s.rtx → apart s ≡ Some s
+apart_gives s other = rw (different) refl
+  where
+    different : (s.media == s.rtx) ≡ false
+    different = grind (arith, nat_tests, other)
+
+resend_read : (words : Words) (s : RtxSettings) → HaveOptions (texts words) (resend_options s) → IsAllowed s → resend_at words ≡ Some (command.Resend s)
+unfolding resend_at rtx_in
+resend_read words s has allowed =
+    let (options, read, (media_is, (rtx_is, (payload_is, (repeats_is, _))))) = had (resend_options s) words (resend_apart s) has in
+    let media_in : (number_for name.Media options >>= within 0 GREATEST_SSRC) ≡ Some s.media =
+    within_gives 0 GREATEST_SSRC s.media (number_for name.Media options) media_is (omega arith, allowed.media) in
+    let rtx_found : (number_for name.Rtx options >>= within 0 GREATEST_SSRC) ≡ Some s.rtx =
+    within_gives 0 GREATEST_SSRC s.rtx (number_for name.Rtx options) rtx_is (omega arith, allowed.rtx) in
+    let payload_in : (number_for name.Payload options >>= within 0 GREATEST_PAYLOAD) ≡ Some s.payload =
+    within_gives 0 GREATEST_PAYLOAD s.payload (number_for name.Payload options) payload_is (omega arith, allowed.payload) in
+    let repeats_in : (number_for name.Repeats options >>= within 1 MOST_REPEATS) ≡ Some s.repeats =
+    within_gives 1 MOST_REPEATS s.repeats (number_for name.Repeats options) repeats_is (allowed.some, allowed.few) in
+    rw (read, media_in, rtx_found, payload_in, repeats_in, apart_gives s allowed.apart)
+
 -- a word of these bytes, and words behind it
 abbrev AreTitled : Words → List ℕ → List (List ℕ) → Type 0
 AreTitled words title rest = (spare : ℕ) × (behind : Words) × (words ≡ word_of title spare ∷ behind) × (texts behind ≡ rest)
@@ -438,3 +521,7 @@ reads words (command.Loop settings millis) is =
     let at = are_titled words (codes "loop") is.0 is.1 in
     ap command_of at.2
     ∙ loop_read at.1 settings millis (subst (λ ts. HaveOptions ts (loop_options settings millis)) (sym at.3) is.2) is.3 is.4
+reads words (command.Resend settings) is =
+    let at = are_titled words (codes "resend") is.0 is.1 in
+    ap command_of at.2
+    ∙ resend_read at.1 settings (subst (λ ts. HaveOptions ts (resend_options settings)) (sym at.3) is.2) is.3

@@ -6,6 +6,7 @@ use Rattle.run_io.specs.Faults.{Rose}
 use Rattle.run_io.specs.Growth.{Grew, GrewInPart, Grew-nothing}
 use Rattle.call_trace.specs.declared.fault.TheConstants.{TOO_LONG}
 use Rattle.call_trace.specs.Reading.{fault}
+use Rattle.nack_rtx.specs.declared.resender.RtxSettings.{RtxSettings}
 use Rattle.reply_text.specs.declared.check.Verdict.{Verdict}
 use Rattle.reply_text.specs.declared.check.Verdict.TheVariants as verdict
 use Rattle.run_top.specs.declared.reading.ReadStop.{ReadStop}
@@ -18,6 +19,7 @@ use Rattle.run_top.specs.Check.{ended_by}
 use Rattle.run_top.specs.Outcome.{front_input, IfTold, IsReadUp, IsEnded, IsSilent, IsFaultOf, NamesFault, Writes, Wrote, WroteInPart}
 use Rattle.run_top.specs.Reading.{StoppedFor}
 use Rattle.run_top.specs.Replay.{input}
+use Rattle.run_top.specs.Resent.{if_one}
 use Rattle.run_top.specs.Served.{Streams, streams, IsServed, IsWritten}
 use Rattle.run_top.specs.Stops.{IsStop, stopped_by}
 
@@ -38,6 +40,9 @@ check-reads left P is = is
 
 pub compare-reads : Reads command.Compare
 compare-reads left P is = is
+
+pub resend-reads : (settings : RtxSettings) → Reads (command.Resend settings)
+resend-reads settings left P is = is
 
 -- ---- it stopped
 
@@ -114,6 +119,7 @@ told-all command.Compare left P all = any left P all
 told-all (command.Make seed calls actors) left P all = all []
 told-all (command.Demo seed calls) left P all = all []
 told-all (command.Loop settings millis) left P all = all []
+told-all (command.Resend settings) left P all = any left P all
 
 each : (left : Option (List ℕ)) (P Q : List ℕ → Type 0) → ((bytes : List ℕ) → P bytes → Q bytes) → IfSome left P → IfSome left Q
 each None P Q from is = tt
@@ -127,6 +133,7 @@ told-each command.Compare left P Q from is = each left P Q from is
 told-each (command.Make seed calls actors) left P Q from is = from [] is
 told-each (command.Demo seed calls) left P Q from is = from [] is
 told-each (command.Loop settings millis) left P Q from is = from [] is
+told-each (command.Resend settings) left P Q from is = each left P Q from is
 
 pub served-text : (c : Command) (text : List ℕ) (ended result : Status) (left left_now : Option (List ℕ)) (reads reads_now : ℕ) (written written_now : Option (List ℕ)) (writes writes_now : ℕ)
     → EndsWell c ended → IsReadUp c left left_now → IfTold c left (λ bytes. Writes c bytes ended text)
@@ -224,6 +231,9 @@ race-much = too-much
 
 pub compare-much : TooMuch command.Compare MOST_TRACE_BYTES
 compare-much = too-much
+
+pub resend-much : (settings : RtxSettings) → TooMuch (command.Resend settings) MOST_TRACE_BYTES
+resend-much settings bytes more = ap if_one (too-much bytes more)
 
 pub check-much : TooMuch command.Check MOST_CHECK_BYTES
 check-much = too-much-front

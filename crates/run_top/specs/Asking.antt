@@ -9,7 +9,7 @@ use Rattle.run_top.specs.declared.words.Command.{Command}
 use Rattle.run_top.specs.declared.words.Command.TheVariants as command
 use Rattle.run_top.specs.declared.options.Name.TheVariants as name
 use Rattle.run_top.specs.declared.options.Given.{Given}
-use Rattle.run_top.specs.Words.{name_text, given, IsFromTo}
+use Rattle.run_top.specs.Words.{name_text, given, IsFromTo, IsAllowed}
 
 -- a number in decimal: digits without a leading zero, and their value, which is below 2^64
 pub record IsNumberText (text : List ℕ) (n : ℕ) : Type 0 where
@@ -61,3 +61,7 @@ Asks words (command.Loop settings millis) =
     (rest : List (List ℕ)) × (words ≡ codes "loop" ∷ rest)
     × HaveOptions rest (given name.Rate settings.rate ∷ given name.Queue settings.queue ∷ given name.Delay settings.delay ∷ given name.Millis millis ∷ [])
     × IsLink settings × IsFromTo 1 MOST_MILLIS millis
+Asks words (command.Resend settings) =
+    (rest : List (List ℕ)) × (words ≡ codes "resend" ∷ rest)
+    × HaveOptions rest (given name.Media settings.media ∷ given name.Rtx settings.rtx ∷ given name.Payload settings.payload ∷ given name.Repeats settings.repeats ∷ [])
+    × IsAllowed settings

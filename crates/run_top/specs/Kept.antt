@@ -12,3 +12,4 @@ KeepsSource command.Compare before now = Unit {0}
 KeepsSource (command.Make seed calls actors) before now = now ≡ before
 KeepsSource (command.Demo seed calls) before now = now ≡ before
 KeepsSource (command.Loop settings millis) before now = now ≡ before
+KeepsSource (command.Resend settings) before now = Unit {0}

@@ -5,6 +5,7 @@ pub mod Asking
 pub mod Ending
 pub mod Reading
 pub mod Replay
+pub mod Resent
 pub mod Outcome
 pub mod Kept
 pub mod Stops

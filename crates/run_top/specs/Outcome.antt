@@ -22,6 +22,8 @@ use Rattle.run_top.specs.Replay.{input, replayed}
 use Rattle.run_top.specs.Compared.{comparison}
 use Rattle.run_top.specs.Summary.{summary}
 use Rattle.run_top.specs.Looped.{loop_text}
+use Rattle.resending.specs.Serving.{serving}
+use Rattle.run_top.specs.Resent.{one_input, resent_text}
 
 -- ---- what is read
 
@@ -38,6 +40,7 @@ IfTold command.Compare left P = IfSome left P
 IfTold (command.Make seed calls actors) left P = P []
 IfTold (command.Demo seed calls) left P = P []
 IfTold (command.Loop settings millis) left P = P []
+IfTold (command.Resend settings) left P = IfSome left P
 
 -- the source was read to its end; by a command that reads nothing it was left as it is
 abbrev pub IsReadUp : Command → Option (List ℕ) → Option (List ℕ) → Type 0
@@ -48,6 +51,7 @@ IsReadUp command.Compare before now = IfSome before (λ bytes. now ≡ Some [])
 IsReadUp (command.Make seed calls actors) before now = now ≡ before
 IsReadUp (command.Demo seed calls) before now = now ≡ before
 IsReadUp (command.Loop settings millis) before now = now ≡ before
+IsReadUp (command.Resend settings) before now = IfSome before (λ bytes. now ≡ Some [])
 
 -- ---- what is written
 
@@ -72,6 +76,9 @@ Writes (command.Make seed calls actors) bytes ended text = (ended ≡ status.Don
 Writes (command.Demo seed calls) bytes ended text = (ended ≡ status.Done) × (text ≡ summary (ordered (made seed calls 1).lines))
 -- what the closed loop over the link comes to
 Writes (command.Loop settings millis) bytes ended text = (ended ≡ status.Done) × (text ≡ loop_text settings (looping settings millis))
+-- the printed history of the calls of the trace's lines, with their glances, where NACKs are answered, and a line for each NACK
+Writes (command.Resend settings) bytes ended text =
+    (ended ≡ status.Done) × (trace : Plain) × (one_input bytes ≡ Ok trace) × IsTrace bytes trace × (text ≡ resent_text (serving settings trace.lines))
 
 -- that text was written, whole
 abbrev pub Wrote : Command → List ℕ → Status → Option (List ℕ) → Option (List ℕ) → Type 0
@@ -102,6 +109,7 @@ MayDiffer command.Compare = ⊥
 MayDiffer (command.Make seed calls actors) = ⊥
 MayDiffer (command.Demo seed calls) = ⊥
 MayDiffer (command.Loop settings millis) = ⊥
+MayDiffer (command.Resend settings) = ⊥
 
 -- nothing was written where the words, the reading, the trace or memory stopped the run
 abbrev pub IsSilent : Status → Option (List ℕ) → Option (List ℕ) → Type 0
@@ -122,6 +130,7 @@ IsFaultOf command.Compare bytes f = input bytes ≡ Err f
 IsFaultOf (command.Make seed calls actors) bytes f = ⊥
 IsFaultOf (command.Demo seed calls) bytes f = ⊥
 IsFaultOf (command.Loop settings millis) bytes f = ⊥
+IsFaultOf (command.Resend settings) bytes f = one_input bytes ≡ Err f
 
 -- the fault that is named is that of the bytes
 abbrev pub NamesFault : Command → Status → List ℕ → Type 0

@@ -1,5 +1,5 @@
 -- The words that are accepted, and what they ask for.
-use Rattle.std.specs.Prelude.{ℕ, ◌≤◌, ◌&&◌, nat_le, nat_eq, if◌then◌else◌, Bool, Option, None, Some, zero, suc, List, [], ◌∷◌, take, drop, length, codes}
+use Rattle.std.specs.Prelude.{◌≢◌, ℕ, ◌≤◌, ◌==◌, ◌&&◌, nat_le, nat_eq, if◌then◌else◌, Bool, Option, None, Some, zero, suc, List, [], ◌∷◌, take, drop, length, codes}
 use Rattle.std.specs.Str.{bytes_eq}
 use Rattle.std.specs.Cmp.Lexicographic.{pointwise}
 use Rattle.gcc_units.specs.Listed.{Listed}
@@ -9,6 +9,9 @@ use Rattle.link_path.specs.declared.TheConstants.{LEAST_QUEUE, GREATEST_QUEUE, L
 use Rattle.link_path.specs.declared.link.LinkSettings.{LinkSettings}
 use Rattle.link_path.specs.KeptLink.{IsLink}
 use Rattle.link_loop.specs.declared.TheConstants.{MOST_MILLIS}
+use Rattle.nack_rtx.specs.declared.resender.RtxSettings.{RtxSettings}
+use Rattle.resending.specs.declared.serving.TheConstants.{MOST_REPEATS}
+use Rattle.run_top.specs.declared.words.TheConstants.{GREATEST_SSRC, GREATEST_PAYLOAD}
 use Rattle.run_top.specs.declared.words.Command.{Command}
 use Rattle.run_top.specs.declared.words.Command.TheVariants as command
 use Rattle.run_top.specs.declared.options.Name.{Name}
@@ -151,6 +154,29 @@ loop_at words = do
   millis ← number_for name.Millis options >>= within 1 MOST_MILLIS
   Some (command.Loop settings millis)
 
+abbrev pub rtx_settings : ℕ → ℕ → ℕ → ℕ → RtxSettings
+rtx_settings media rtx payload repeats = record { media = media; rtx = rtx; payload = payload; repeats = repeats }
+
+-- packets that are sent again have an SSRC of their own
+abbrev pub apart : RtxSettings → Option RtxSettings
+apart s = if s.media == s.rtx then None else Some s
+
+-- the settings of resends among options
+unfoldable pub rtx_in : List Given → Option RtxSettings
+rtx_in options = do
+  media ← number_for name.Media options >>= within 0 GREATEST_SSRC
+  rtx ← number_for name.Rtx options >>= within 0 GREATEST_SSRC
+  payload ← number_for name.Payload options >>= within 0 GREATEST_PAYLOAD
+  repeats ← number_for name.Repeats options >>= within 1 MOST_REPEATS
+  apart (rtx_settings media rtx payload repeats)
+
+-- the options of `resend`, each once
+unfoldable pub resend_at : List (Listed ℕ) → Option Command
+resend_at words = do
+  options ← options_at 4 words
+  settings ← rtx_in options
+  Some (command.Resend settings)
+
 -- what words ask for, if they are accepted
 unfoldable pub command_of : List (Listed ℕ) → Option Command
 command_of [] = None
@@ -162,11 +188,22 @@ command_of (word ∷ words) =
     else if is_text word (codes "make") then make_at words
     else if is_text word (codes "demo") then demo_at words
     else if is_text word (codes "loop") then loop_at words
+    else if is_text word (codes "resend") then resend_at words
     else None
 
 -- a number from the least to the most
 abbrev pub IsFromTo : ℕ → ℕ → ℕ → Type 0
 IsFromTo least most n = (least ≤ n) × (n ≤ most)
+
+-- settings of resends: SSRCs of 32 bits, one for the media and another for what is sent again, a payload type of 7 bits, and how often a
+-- packet is sent again
+pub record IsAllowed (s : RtxSettings) : Type 0 where
+  pub media : s.media ≤ GREATEST_SSRC
+  pub rtx : s.rtx ≤ GREATEST_SSRC
+  pub apart : s.media ≢ s.rtx
+  pub payload : s.payload ≤ GREATEST_PAYLOAD
+  pub some : 1 ≤ s.repeats
+  pub few : s.repeats ≤ MOST_REPEATS
 
 -- the numbers of a command are within the limits
 abbrev pub IsWithin : Command → Type 0
@@ -177,10 +214,12 @@ IsWithin command.Compare = Unit {0}
 IsWithin (command.Make seed calls actors) = IsFromTo 1 MOST_LINES calls × IsFromTo 1 MOST_ACTORS actors
 IsWithin (command.Demo seed calls) = IsFromTo 1 MOST_LINES calls
 IsWithin (command.Loop settings millis) = IsLink settings × IsFromTo 1 MOST_MILLIS millis
+IsWithin (command.Resend settings) = IsAllowed settings
 
--- a race waits
+-- a race waits, and so do calls between which lost packets are sent again
 abbrev pub unless_race : Command → Option Command
 unless_race command.Race = None
+unless_race (command.Resend settings) = None
 unless_race command.Replay = Some command.Replay
 unless_race command.Check = Some command.Check
 unless_race command.Compare = Some command.Compare

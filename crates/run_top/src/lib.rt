@@ -15,6 +15,7 @@ mod options;
 mod racing;
 mod reading;
 mod replay;
+mod resent;
 mod status;
 mod summing;
 mod told;

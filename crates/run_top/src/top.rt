@@ -11,6 +11,7 @@ use crate::looping::run_closed_loop;
 use crate::making::run_make;
 use crate::racing::run_race;
 use crate::replay::run_replay;
+use crate::resent::run_resend;
 use crate::status::Status;
 use crate::summing::run_demo;
 use crate::words::{Command, WordList, read_words};
@@ -28,7 +29,7 @@ use std::thread::Threads;
 /// `--calls` and `--actors` reads nothing and writes a made trace; `demo` with `--seed` and
 /// `--calls` writes a summary of such a trace of one actor, replayed; `loop` with `--rate`, `--queue`,
 /// `--delay` and `--millis` writes what a closed loop over such a link comes to. All other words are
-/// `Usage`, `race` too.
+/// `Usage`, `race` and `resend` too.
 pub fn run_plain<S: Source, K: Sink>(
     alloc: Global,
     words: &WordList,
@@ -54,7 +55,7 @@ pub fn run_plain<S: Source, K: Sink>(
         ) => run_make(alloc, seed, calls, actors, sink),
         Some(Command::Demo { seed, calls }) => run_demo(alloc, seed, calls, sink),
         Some(Command::Loop { settings, millis }) => run_closed_loop(alloc, settings, millis, sink),
-        Some(Command::Race) | None => Status::Usage,
+        Some(Command::Race) | Some(Command::Resend { .. }) | None => Status::Usage,
     }
 }
 
@@ -63,7 +64,9 @@ pub fn run_plain<S: Source, K: Sink>(
 /// `race` reads a trace to the end of the source. Each actor makes the calls of its lines on a seat
 /// of its own, at the same time as the others, and the gate is called before and after each line.
 /// It writes the printed history of all their calls, and their glances. It may wait: a call of an
-/// actor waits for its turn. All other words go to [`run_plain`].
+/// actor waits for its turn. `resend` with `--media`, `--rtx`, `--payload` and `--repeats` reads a trace
+/// of one actor, serves its lines in their order and answers NACKs between them, and writes the printed
+/// history and a line for each NACK. All other words go to [`run_plain`].
 pub fn run<R: Threads + Wait + Sync, S: Source, K: Sink, G: Gate + Sync>(
     rt: &R,
     alloc: Global,
@@ -80,6 +83,7 @@ pub fn run<R: Threads + Wait + Sync, S: Source, K: Sink, G: Gate + Sync>(
 {
     match read_words(words) {
         Some(Command::Race) => run_race(rt, alloc, source, sink, gate),
+        Some(Command::Resend { settings }) => run_resend(rt, alloc, settings, source, sink),
         _ => run_plain(alloc, words, source, sink),
     }
 }

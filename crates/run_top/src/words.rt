@@ -2,12 +2,20 @@
 
 ghost use Rattle.std.specs.Prelude.{◌≡◌, IfSome};
 ghost use Rattle.link_path.specs.KeptLink.{IsLink};
-ghost use Rattle.run_top.specs.Words.{is_text, alone, make_at, demo_at, settings_in, loop_at, command_of, IsWithin};
+ghost use Rattle.run_top.specs.Words.{is_text, alone, make_at, demo_at, settings_in, loop_at, apart, rtx_in, resend_at, command_of, IsAllowed, IsWithin};
 
 use crate::options::{Given, Name, number_for, read_options, within};
 use gcc_units::{Bytes, GREATEST_RATE, LEAST_RATE, MOST_ACTORS, MOST_LINES, Sequence};
 use link_loop::MOST_MILLIS;
 use link_path::{GREATEST_QUEUE, LEAST_QUEUE, LONGEST_DELAY, LinkSettings};
+use nack_rtx::RtxSettings;
+use resending::MOST_REPEATS;
+
+/// The greatest SSRC (RFC 3550, section 5.1).
+pub const GREATEST_SSRC: u64 = 4_294_967_295;
+
+/// The greatest payload type (RFC 3550, section 5.1).
+pub const GREATEST_PAYLOAD: u64 = 127;
 
 /// The words of a command line, without the program's name.
 pub type WordList = Sequence<Bytes>;
@@ -29,6 +37,8 @@ pub enum Command {
     Demo { seed: u64, calls: u32 },
     /// `loop` with its four options, three of them the link's settings
     Loop { settings: LinkSettings, millis: u32 },
+    /// `resend` with its four options
+    Resend { settings: RtxSettings },
 }
 
 fn is_word(word: &Bytes, text: &[u8]) -> bool
@@ -115,6 +125,49 @@ fn closed_loop(words: &[Bytes]) -> Option<Command>
     })
 }
 
+/// The settings of resends, where the packets that are sent again have an SSRC of their own.
+fn apart(settings: RtxSettings) -> Option<RtxSettings>
+    ensures { result ≡ apart settings }
+{
+    if settings.media == settings.rtx {
+        None
+    } else {
+        Some(settings)
+    }
+}
+
+/// The settings of resends, by four options.
+#[tactic(auto, unfolding(crate::specs::Words::rtx_in))]
+fn rtx_settings(options: &[Given]) -> Option<RtxSettings>
+    ensures asked { result ≡ rtx_in options.now }
+    ensures within { IfSome result IsAllowed }
+{
+    let media = within(0, GREATEST_SSRC, number_for(options, Name::Media)?)?;
+    let rtx = within(0, GREATEST_SSRC, number_for(options, Name::Rtx)?)?;
+    let payload = within(0, GREATEST_PAYLOAD, number_for(options, Name::Payload)?)?;
+    let repeats = within(
+        1,
+        u64::from(MOST_REPEATS),
+        number_for(options, Name::Repeats)?,
+    )?;
+    apart(RtxSettings {
+        media: media as u32,
+        rtx: rtx as u32,
+        payload: payload as u8,
+        repeats: repeats as u32,
+    })
+}
+
+#[tactic(auto, unfolding(crate::specs::Words::resend_at))]
+fn resend(words: &[Bytes]) -> Option<Command>
+    ensures asked { result ≡ resend_at words.now }
+    ensures within { IfSome result IsWithin }
+{
+    let options = read_options::<4>(words)?;
+    let settings = rtx_settings(&options)?;
+    Some(Command::Resend { settings })
+}
+
 /// What the words ask for, where they are accepted.
 #[tactic(auto, unfolding(crate::specs::Words::command_of))]
 pub fn read_words(words: &WordList) -> Option<Command>
@@ -138,6 +191,8 @@ pub fn read_words(words: &WordList) -> Option<Command>
                 demo(rest)
             } else if is_word(word, b"loop") {
                 closed_loop(rest)
+            } else if is_word(word, b"resend") {
+                resend(rest)
             } else {
                 None
             }

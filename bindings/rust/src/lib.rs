@@ -103,6 +103,10 @@ pub struct Sender {
     handle: ffi::Handle,
 }
 
+// The handle is the one owner of the sender behind it, the sender is bound to no thread, and each call
+// borrows it for itself.
+unsafe impl Send for Sender {}
+
 impl Sender {
     /// A sender with the settings that a sender begins with, at moment 0.
     pub fn new() -> Result<Sender, Error> {

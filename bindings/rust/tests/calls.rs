@@ -43,3 +43,10 @@ fn refusals_have_their_causes() {
     assert_eq!(sender.shares(), Ok(vec![(4, 200_000)]));
     assert_eq!(sender.rates().target, 500_000);
 }
+
+#[test]
+fn a_sender_goes_to_another_thread() {
+    let mut sender = Sender::new().unwrap();
+    let index = std::thread::spawn(move || sender.enqueue(5, Class::Video, &VIDEO));
+    assert_eq!(index.join().unwrap(), Ok(0));
+}

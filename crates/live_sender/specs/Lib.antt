@@ -1,4 +1,3 @@
 pub mod Held
 pub mod Live
 pub mod Replies
-pub mod Sums

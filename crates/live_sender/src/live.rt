@@ -5,7 +5,6 @@ ghost use Rattle.std.specs.Prelude.{◌≡◌, ◌≤◌, ◌↔◌, ℕ, true, 
 use crate::packets::Packets;
 use crate::serving::{id_of, is_accepted, judged_by, pace_parts, quiet, records_of};
 use crate::stamping::stamp_all;
-use crate::sums::Sums;
 use gcc_units::{Bytes, Class, MOST_REPORTS, MOST_SENDS, NoMemory};
 use rtp_wire::WireList;
 use send_core::{
@@ -31,7 +30,6 @@ pub struct LiveSender {
     parts: Parts,
     packets: Packets,
     judged: u32,
-    sums: Sums,
 }
 
 impl Model for LiveSender {
@@ -41,9 +39,9 @@ impl Model for LiveSender {
 
     ghost Value = { Live };
 
-    ghost view = { λ s. record { parts = s.parts; packets = s.packets; judged = s.judged; sums = s.sums } };
+    ghost view = { λ s. record { parts = s.parts; packets = s.packets; judged = s.judged } };
 
-    ghost invariant = { λ s. (history : List Entry) × StandsFor (record { parts = s.parts; packets = s.packets; judged = s.judged; sums = s.sums }) history };
+    ghost invariant = { λ s. (history : List Entry) × StandsFor (record { parts = s.parts; packets = s.packets; judged = s.judged }) history };
 }
 
 impl LiveSender {
@@ -64,7 +62,6 @@ impl LiveSender {
             parts: Parts::new(alloc)?,
             packets: Packets::new(alloc),
             judged: 0,
-            sums: Sums::none(),
         })
     }
 
@@ -91,13 +88,6 @@ impl LiveSender {
         self.judged
     }
 
-    // What the replies add up to.
-    pub(crate) fn sums(&self) -> Sums
-        ensures { result ≡ self.now.sums }
-    {
-        self.sums
-    }
-
     /// What may leave now is sent. On `Err` nothing has changed.
     pub fn pace(&mut self, alloc: Global, at: u64) -> Result<Answer, LiveFault>
         ensures reply { IfOk result (λ a. (history : List Entry) → StandsFor self.old history → a.reply ≡ reply history (call.Pace at)) }
@@ -120,7 +110,6 @@ impl LiveSender {
         };
         let wires = stamp_all(&self.packets, id, &reply, room);
         self.packets.free(records_of(&reply));
-        self.sums.add(&reply);
         Ok(Answer { reply, wires })
     }
 
@@ -150,7 +139,6 @@ impl LiveSender {
         };
         let reply = self.parts.enqueue(at, class, kept);
         self.packets.keep_only_if(index, is_accepted(&reply));
-        self.sums.note(&reply);
         Ok(reply)
     }
 
@@ -170,7 +158,6 @@ impl LiveSender {
             return Err(LiveFault::NoMemory);
         };
         self.judged += judged_by(&reply);
-        self.sums.add(&reply);
         Ok(reply)
     }
 
@@ -189,7 +176,6 @@ impl LiveSender {
         let Ok((reply, _room)) = self.parts.configure(alloc, at, change) else {
             return Err(LiveFault::NoMemory);
         };
-        self.sums.note(&reply);
         Ok(reply)
     }
 

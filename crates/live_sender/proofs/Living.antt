@@ -31,14 +31,16 @@ use Rattle.send_core.proofs.Standing.{stands-push}
 use Rattle.live_sender.specs.Held.{Held, bytes_in, kept, under}
 use Rattle.live_sender.specs.Replies.{is_accepted, is_judged}
 use Rattle.live_sender.specs.Live.{bytes_among, Live, StandsFor}
+use Rattle.live_sender.specs.Sums.{sums_of}
 use Rattle.live_sender.proofs.Among.{bytes-unsent, bytes-accepted, bytes-next}
 
--- the parts, the bytes and the count of reports together
+-- the parts, the bytes, the count of reports and the sums together
 pub live-push : (h : List Entry) (before after : Live) (caller : ℕ) (call : Call) (given : Reply) → StandsFor before h → Steps call given before.parts after.parts → given ≡ reply h call
     → ((k : ℕ) → under after.packets k ≡ bytes_among (waiting (h ++ entry caller call given ∷ [])) (accepted (h ++ entry caller call given ∷ [])) k)
     → after.judged ≡ before.judged + length (reports (events_by call given))
+    → after.sums ≡ sums_of (h ++ entry caller call given ∷ [])
     → StandsFor after (h ++ entry caller call given ∷ [])
-live-push h before after caller call given s steps is packets judged =
+live-push h before after caller call given s steps is packets judged sums =
     let e : Entry = entry caller call given in
     let all : length (reports (events (h ++ e ∷ []))) ≡ length (reports (events h)) + length (reports (events_by call given)) =
     ap (λ es. length (reports es)) (events-push h e)
@@ -48,6 +50,7 @@ live-push h before after caller call given s steps is packets judged =
       answered = each-push (λ front (x : Entry). x.reply ≡ reply front x.call) h e s.answered is;
       packets = packets;
       judged = judged ∙ (ap (λ n. n + length (reports (events_by call given))) s.judged ∙ sym all);
+      sums = sums;
     }
 
 -- ---- how many reports were judged

@@ -1,3 +1,4 @@
 pub mod Held
 pub mod Live
 pub mod Replies
+pub mod Sums

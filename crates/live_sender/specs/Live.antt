@@ -12,13 +12,16 @@ use Rattle.send_core.specs.History.{AcceptedPacket, wire_in, accepted, sent, wai
 use Rattle.send_core.specs.Reports.{events}
 use Rattle.send_core.specs.Reply.{IsAnswered}
 use Rattle.send_core.specs.Stands as core
+use Rattle.live_sender.specs.declared.sums.Sums.{Sums}
 use Rattle.live_sender.specs.Held.{under}
+use Rattle.live_sender.specs.Sums.{sums_of}
 
--- what it keeps: the parts, the packets that wait, and how many reports were judged
+-- what it keeps: the parts, the packets that wait, how many reports were judged, and what the replies add up to
 pub record Live : Type 0 where
   pub parts : Parts
   pub packets : List (ℕ × Listed ℕ)
   pub judged : ℕ
+  pub sums : Sums
 
 -- whether a packet of this index is among these
 abbrev pub is_among : List Ticket → ℕ → Bool
@@ -34,6 +37,7 @@ pub record StandsFor (live : Live) (history : List Entry) : Type 0 where
   pub answered : IsAnswered history
   pub packets : (index : ℕ) → under live.packets index ≡ bytes_among (waiting history) (accepted history) index
   pub judged : live.judged ≡ length (reports (events history))
+  pub sums : live.sums ≡ sums_of history
 
 -- one more call could pass a limit: a pace that of the packets sent, a report that of the reports, a packet that of the accepted ones
 abbrev pub is_exhausted : List Entry → Bool

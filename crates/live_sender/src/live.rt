@@ -5,6 +5,7 @@ ghost use Rattle.std.specs.Prelude.{◌≡◌, ◌≤◌, ◌↔◌, ℕ, true, 
 use crate::packets::Packets;
 use crate::serving::{id_of, is_accepted, judged_by, pace_parts, quiet, records_of};
 use crate::stamping::stamp_all;
+use crate::sums::Sums;
 use gcc_units::{Bytes, Class, MOST_REPORTS, MOST_SENDS, NoMemory};
 use rtp_wire::WireList;
 use send_core::{
@@ -30,6 +31,7 @@ pub struct LiveSender {
     parts: Parts,
     packets: Packets,
     judged: u32,
+    sums: Sums,
 }
 
 impl Model for LiveSender {
@@ -39,9 +41,9 @@ impl Model for LiveSender {
 
     ghost Value = { Live };
 
-    ghost view = { λ s. record { parts = s.parts; packets = s.packets; judged = s.judged } };
+    ghost view = { λ s. record { parts = s.parts; packets = s.packets; judged = s.judged; sums = s.sums } };
 
-    ghost invariant = { λ s. (history : List Entry) × StandsFor (record { parts = s.parts; packets = s.packets; judged = s.judged }) history };
+    ghost invariant = { λ s. (history : List Entry) × StandsFor (record { parts = s.parts; packets = s.packets; judged = s.judged; sums = s.sums }) history };
 }
 
 impl LiveSender {
@@ -62,6 +64,7 @@ impl LiveSender {
             parts: Parts::new(alloc)?,
             packets: Packets::new(alloc),
             judged: 0,
+            sums: Sums::none(),
         })
     }
 
@@ -88,6 +91,13 @@ impl LiveSender {
         self.judged
     }
 
+    // What the replies add up to.
+    pub(crate) fn sums(&self) -> Sums
+        ensures { result ≡ self.now.sums }
+    {
+        self.sums
+    }
+
     /// What may leave now is sent. On `Err` nothing has changed.
     pub fn pace(&mut self, alloc: Global, at: u64) -> Result<Answer, LiveFault>
         ensures reply { IfOk result (λ a. (history : List Entry) → StandsFor self.old history → a.reply ≡ reply history (call.Pace at)) }
@@ -110,6 +120,7 @@ impl LiveSender {
         };
         let wires = stamp_all(&self.packets, id, &reply, room);
         self.packets.free(records_of(&reply));
+        self.sums.add(&reply);
         Ok(Answer { reply, wires })
     }
 
@@ -139,6 +150,7 @@ impl LiveSender {
         };
         let reply = self.parts.enqueue(at, class, kept);
         self.packets.keep_only_if(index, is_accepted(&reply));
+        self.sums.note(&reply);
         Ok(reply)
     }
 
@@ -158,6 +170,7 @@ impl LiveSender {
             return Err(LiveFault::NoMemory);
         };
         self.judged += judged_by(&reply);
+        self.sums.add(&reply);
         Ok(reply)
     }
 
@@ -176,6 +189,7 @@ impl LiveSender {
         let Ok((reply, _room)) = self.parts.configure(alloc, at, change) else {
             return Err(LiveFault::NoMemory);
         };
+        self.sums.note(&reply);
         Ok(reply)
     }
 

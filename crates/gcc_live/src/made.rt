@@ -106,7 +106,7 @@ fn run_one(alloc: Global, text: &mut String, calls: u32, seed: u64) -> Result<Li
 {
     let trace = make_trace(alloc, seed, calls, 1)?;
     let served = serve_all(alloc, trace.lines)?;
-    let packets = served.sender.counters().sent;
+    let packets = served.sender.packets_sent();
     let target = served.sender.target();
     push_sum(text, calls, packets, served.bytes, target)?;
     Ok(served.sender)

@@ -126,7 +126,7 @@ pub fn finish(told: Told, actors: u32, sender: &LiveSender) -> Result<String, No
     } = told;
     let mut text = text;
     push_actors(&mut text, glances.as_slice(), actors)?;
-    let sent = sender.counters().sent;
+    let sent = sender.packets_sent();
     let target = sender.target();
     write!(text, "end {calls} {sent} {target}\n")?;
     Ok(text)

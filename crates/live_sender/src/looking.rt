@@ -76,6 +76,13 @@ impl LiveSender {
         self.parts().pacer.moment()
     }
 
+    /// How many packets were sent, padding among them.
+    pub fn packets_sent(&self) -> u64
+        ensures { (history : List Entry) → StandsFor self.now history → result ≡ length (sent history) }
+    {
+        self.parts().history.sent()
+    }
+
     /// The target rate, in bit/s.
     pub fn target(&self) -> Rate
         ensures target { (history : List Entry) → StandsFor self.now history → result ≡ target history }

@@ -3,4 +3,4 @@ pub mod Counting
 pub mod Leaving
 pub mod Living
 pub mod Summing
-pub mod Nexts
+pub mod NextSends

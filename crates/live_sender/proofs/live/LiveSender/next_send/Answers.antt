@@ -1,4 +1,4 @@
-use Rattle.live_sender.proofs.Nexts.{next-sends, next-none_before, next-none}
+use Rattle.live_sender.proofs.NextSends.{next-sends, next-none_before, next-none}
 use Rattle.live_sender.proofs.live.LiveSender.next_send.Goals as goal
 
 pub returns-clause-sends : goal.returns-clause-sends

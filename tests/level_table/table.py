@@ -5,8 +5,9 @@ It shares nothing with the crate: it keeps the whole lists (all delays, the repo
 where the crate keeps running numbers. Its output is kept beside it as table.txt, and the same rows stand in the test
 of `level_control`. Run it as
 
-    table.py        the table: one line a report, the columns named in its first line
-    table.py rows   the rows of the test of `level_control`
+    table.py               the table: one line a report, the columns named in its first line
+    table.py rows          the rows of the test of `level_control`
+    table.py vectors DIR   the vectors of `gcc_live level`: NAME.reports is what it reads, NAME.rates what it must write
 """
 import sys
 from math import isqrt
@@ -141,8 +142,8 @@ class Control:
             else:
                 self.increase(x, dt)
         self.r = max(low, min(high, self.r))
-        signal = "Over" if cut else "Normal" if self.drain is NONE else "Under"
-        return self.r, signal, self.probe(now, results, waits, low, high)
+        self.signal = "Over" if cut else "Normal" if self.drain is NONE else "Under"
+        return self.r, self.signal, self.probe(now, results, waits, low, high)
 
     def probe(self, now, results, waits, low, high):
         rate = NONE
@@ -207,6 +208,66 @@ def rows():
             cluster = asked if asked is not NONE else cluster
 
 
+# start, link, least and greatest rate, seed, loss of every so many packets in some reports, others, jitter
+LINKS = {
+    "constant-300k": (300_000, 300_000, 30_000, 10_000_000, 1, 0, 0, 40),
+    "constant-3m": (300_000, 3_000_000, 30_000, 10_000_000, 2, 0, 0, 20),
+    "constant-50m": (1_000_000, 50_000_000, 100_000, 100_000_000, 3, 0, 0, 12),
+    "greatest-rate": (9_000_000_000, 20_000_000_000, 1_000, 10_000_000_000, 4, 0, 0, 30),
+    "least-rate": (2_000, 1_500, 1_000, 50_000, 5, 0, 0, 900),
+    "loss-of-2-percent": (500_000, 2_000_000, 30_000, 10_000_000, 6, 50, 0, 40),
+    "loss-of-10-percent": (500_000, 2_000_000, 30_000, 10_000_000, 7, 10, 0, 40),
+    "loss-of-a-third": (800_000, 900_000, 30_000, 10_000_000, 8, 3, 0, 40),
+    "queue-of-others": (1_000_000, 1_000_000, 30_000, 10_000_000, 9, 0, 11, 60),
+    "jitter-of-60-ms": (700_000, 2_000_000, 30_000, 10_000_000, 10, 0, 0, 240),
+    "few-reports": (700_000, 2_000_000, 30_000, 10_000_000, 11, 0, 0, 40),
+}
+
+
+def link_reports(name):
+    """400 reports over a link that halves after a third and comes back after two, with probes of what is asked for."""
+    start, link, low, high, seed, loss, others, jitter = LINKS[name]
+    noise, control = words(seed), Control(start)
+    now, queue, pending, whole = 10_000_000, 0, [], link
+    for n in range(400):
+        w, v = next(noise), next(noise)
+        dt = 20_000 + w % (400_000 if name == "few-reports" else 80_000) + (6_000_000 if n % 97 == 96 else 0)
+        now, link = now + dt, whole // 2 if 133 <= n < 266 else whole
+        queue = max(0, min(2000, queue + (control.r - link) * min(dt, 100_000) * 4 // (link * 1000)))
+        packets, none = 1 + w % 60, n % 19 == 18
+        lost = (packets + v % loss) // loss if loss and n % 5 != 4 else 0
+        held = others * (n % 150) if others and n >= 50 else 0
+        x = {
+            "delay": NONE if none else -70_000 + queue + held + v % jitter + 2 * n,
+            "got": 0 if none else max(0, packets - lost),
+            "lost": lost,
+            "acked": NONE if n < 2 or n % 31 == 30 else min(control.r, link) * (93 + v % 10) // 100,
+            "rtt": min(10_000_000, 30_000 + 250 * queue),
+            "now": now,
+        }
+        results = [(rate, min(rate, link * (80 + w % 41) // 100)) for rate in pending] if n % 3 else []
+        waits = n % 13 == 7
+        asked = control.report(x, results, waits, low, high)[2]
+        yield x, results, waits, control.r, control.signal, asked
+        pending = ([] if results else pending) + ([asked] if asked is not NONE else [])
+        # Clusters that somebody else planned have results too.
+        pending += [min(10**10, control.r // 2 + w)] if n % 41 == 7 else []
+
+
+def dashed(value):
+    return "-" if value is NONE else str(value)
+
+
+def write_vectors(folder):
+    for name, (start, _, low, high, *_) in LINKS.items():
+        with open(f"{folder}/{name}.reports", "w") as reports, open(f"{folder}/{name}.rates", "w") as rates:
+            print("gcc-level 1", start, low, high, file=reports)
+            for x, results, waits, rate, signal, asked in link_reports(name):
+                fields = [x["now"], dashed(x["delay"]), x["got"], x["lost"], dashed(x["acked"]), x["rtt"], int(waits)]
+                print(*fields, *[number for pair in results for number in pair], file=reports)
+                print(rate, signal, dashed(asked), file=rates)
+
+
 def option(value):
     return "None" if value is NONE else f"Some({value})"
 
@@ -224,4 +285,7 @@ def main(part):
             print(run, *dash, x["rtt"], x["now"], planned, result, int(waits), rate, signal, "-" if asked is NONE else asked)
 
 
-main(*(sys.argv[1:] or [""]))
+if sys.argv[1:2] == ["vectors"]:
+    write_vectors(sys.argv[2])
+else:
+    main(*(sys.argv[1:] or [""]))

@@ -7,6 +7,7 @@
 #![tactic(auto)]
 
 mod against;
+mod levels;
 mod made;
 mod serving;
 mod stop;
@@ -14,6 +15,7 @@ mod telling;
 mod words;
 
 use crate::against::replay;
+use crate::levels::run_level;
 use crate::made::run_made;
 use crate::stop::Stop;
 use crate::words::{Job, job_of};
@@ -51,6 +53,13 @@ fn main(rt: HostRuntime) -> ExitCode {
             let mut bytes = Vec::new(alloc);
             match rt.stdin().read_to_end(&mut bytes) {
                 Ok(_) => replay(alloc, bytes.as_slice()),
+                Err(_) => Err(Stop::Ended(Status::ReadFault)),
+            }
+        }
+        Ok(Some(Job::Level)) => {
+            let mut bytes = Vec::new(alloc);
+            match rt.stdin().read_to_end(&mut bytes) {
+                Ok(_) => run_level(alloc, bytes.as_slice()),
                 Err(_) => Err(Stop::Ended(Status::ReadFault)),
             }
         }

@@ -17,6 +17,8 @@ pub enum Job {
     Made { senders: u32, calls: u32, seed: u64 },
     /// The trace of standard input is served.
     Against,
+    /// The reports of standard input are given to a level control.
+    Level,
 }
 
 /// A number from 1 up to `most`.
@@ -55,6 +57,8 @@ fn asked(words: &[Vec<u8>]) -> Option<Job> {
         [one] => {
             if one.as_slice() == b"--against".as_slice() {
                 Some(Job::Against)
+            } else if one.as_slice() == b"level".as_slice() {
+                Some(Job::Level)
             } else {
                 None
             }

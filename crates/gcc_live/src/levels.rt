@@ -31,6 +31,7 @@ const NO_REPORT: u32 = 13;
 const MOST_DELAY: u64 = 1_000_000_000_000;
 
 /// A field is not what stands at its place.
+#[derive(Clone, Copy)]
 struct NoReport;
 
 /// What a line tells.

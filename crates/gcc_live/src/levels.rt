@@ -153,7 +153,7 @@ fn results(alloc: Global, line: u32, text: &[u8]) -> Result<Vec<Probed>, Stop>
 }
 
 /// What a line tells.
-fn row(alloc: Global, line: u32, text: &[u8]) -> Result<Row, Stop>
+fn read_row(alloc: Global, line: u32, text: &[u8]) -> Result<Row, Stop>
     ensures report { IfOk result (λ r. IsReport r.report) }
     ensures results { IfOk result (λ r. All IsProbed r.results.items) }
 {
@@ -220,7 +220,7 @@ fn take(alloc: Global, told: &mut Told, bounds: Bounds, line: u32, text: &[u8]) 
     ensures order { OnOk result (ForSome told.new.control.last (λ moment. moment ≤ told.new.last)) }
     ensures gathers { OnOk result ((n : ℕ) → Gathers n told.old.control → Gathers (n + 1) told.new.control) }
 {
-    let row = row(alloc, line, text)?;
+    let row = read_row(alloc, line, text)?;
     if row.report.now < told.last {
         return Err(bad(line, NO_REPORT));
     }

@@ -11,8 +11,8 @@
  *  - no pointer is null, each points to as many bytes as its size says, and no two of a call overlap;
  *  - a handle begins as LULQ_SENDER_INIT, is copied nowhere while it is in use, and only these calls
  *    write to it;
- *  - one call at a time for a handle: a program with several threads has its own lock round it. Calls
- *    on different handles need none. No call is made from a signal handler;
+ *  - one call at a time for a handle, looks (rates, queue, stats, next_time, share) among them: a program
+ *    with several threads has its own lock round it. Calls on different handles need none. No call is made from a signal handler;
  *  - malloc, realloc and free are those of one allocator.
  */
 #ifndef LULQOTER_H
@@ -29,7 +29,7 @@ extern "C" {
 #endif
 
 /* What this header was written for; `lulq_abi()` tells what the linked library is. */
-#define LULQ_ABI 1u
+#define LULQ_ABI 2u
 
 /* A handle. Its fields are the library's. */
 typedef struct lulq_sender {
@@ -45,7 +45,7 @@ typedef struct lulq_sender {
 
 /* Results that are no error. */
 #define LULQ_OK 0
-#define LULQ_NOTHING 1   /* nothing may leave now */
+#define LULQ_NOTHING 1   /* nothing may leave now; there is no such moment or share */
 #define LULQ_TOO_SMALL 2 /* the room is too small; the size that is needed is told, and nothing is lost */
 
 /* Causes. */
@@ -77,6 +77,9 @@ typedef struct lulq_sender {
 
 /* Stands for no index and no cluster. */
 #define LULQ_NONE 0xffffffffu
+
+/* Stands for no moment and no time. */
+#define LULQ_NO_TIME UINT64_MAX
 
 /* A packet that leaves. */
 typedef struct lulq_info {
@@ -128,9 +131,34 @@ typedef struct lulq_rates {
   uint64_t pacing; /* the pacing rate, without what drains the queue */
 } lulq_rates;
 
-/* How many packets and reports there were. */
+/* The packets that wait. */
+typedef struct lulq_queue {
+  uint64_t bytes;      /* of all of them */
+  uint64_t oldest;     /* microseconds: when the oldest was accepted; LULQ_NO_TIME where none waits */
+  uint64_t drain_time; /* microseconds, rounded up: in which the rate in force sends them all;
+                          LULQ_NO_TIME where that rate is 0 */
+  uint32_t packets;    /* how many */
+} lulq_queue;
+
+/* How many packets, and their bytes. */
+typedef struct lulq_total {
+  uint64_t packets;
+  uint64_t bytes;
+} lulq_total;
+
+/* How many packets and reports there were, from the first call on. A packet counts as sent once a pace
+ * sent it, also while it is kept for the next pops. */
 typedef struct lulq_stats {
-  uint64_t sent;        /* packets that were sent, padding among them */
+  uint64_t sent;        /* packets that were sent, padding among them: those of the four kinds together */
+  lulq_total audio;     /* LULQ_KIND_AUDIO: audio that no budget held back */
+  lulq_total media;     /* LULQ_KIND_MEDIA: within the budget */
+  lulq_total probes;    /* LULQ_KIND_PROBE */
+  lulq_total padding;   /* LULQ_KIND_PADDING */
+  uint64_t credited;    /* sent packets that a report credited */
+  uint64_t missing;     /* sent packets that a report said were missing, each once; a later report may
+                           credit one all the same */
+  uint64_t expired;     /* sent packets that no report credited, and none can any more */
+  uint64_t refused;     /* packets, reports and changes that were refused, at most 2^64 - 1 */
   uint32_t accepted;    /* accepted packets */
   uint32_t waiting;     /* those of them that wait */
   uint32_t outstanding; /* those of the sent ones that a report may still credit */
@@ -170,6 +198,13 @@ int32_t lulq_sender_enqueue(lulq_sender *sender, uint64_t now, uint32_t packet_c
 int32_t lulq_sender_pop(lulq_sender *sender, uint64_t now, uint8_t *room, size_t room_size,
                         size_t *size, lulq_info *info);
 
+/* When to call `lulq_sender_pop` next: LULQ_OK and the moment in `at`, in microseconds, at which it has a
+ * packet if no other call comes before; from the moment of the last call to it, it has none. Where
+ * packets of the last pace are left it is the moment of the last call: pop at once. LULQ_NOTHING where
+ * no moment up to 2^50 has one: a packet, a report or a change must come first. Each other call may
+ * change it, so ask again after each. */
+int32_t lulq_sender_next_time(lulq_sender *sender, uint64_t *at);
+
 /* Hands in RTCP after SRTP, compound (RFC 3550) or of reduced size (RFC 5506): each transport-wide
  * report in it is served, in order, and other packets are passed over. LULQ_OK where all were
  * accepted (there may be none); else NO_MEMORY or EXHAUSTED where a report and those behind it were
@@ -188,12 +223,27 @@ int32_t lulq_sender_configure(lulq_sender *sender, uint64_t now, const lulq_sett
 /* The rates after the last call. */
 int32_t lulq_sender_rates(lulq_sender *sender, lulq_rates *rates);
 
+/* What waits to be sent. Packets that a pace sent and no pop fetched yet are not among it. */
+int32_t lulq_sender_queue(lulq_sender *sender, lulq_queue *queue);
+
 /* How many packets and reports there were. */
 int32_t lulq_sender_stats(lulq_sender *sender, lulq_stats *stats);
 
 /* The share of this place, counted from 0 in rising order of the streams' ids. LULQ_NOTHING where
  * there is none. It takes memory for the call. */
 int32_t lulq_sender_share(lulq_sender *sender, uint32_t place, lulq_share *share);
+
+/* Two calls that stand alone, for those with a pacer of their own. They have no handle, and any thread may
+ * make them at any time. `id` is that of the extension element, 1 to 14; another one is answered by
+ * LULQ_E_SETTINGS - 4. A packet that fails a check is answered by LULQ_E_PACKET less the check. */
+
+/* Where the two bytes of the transport-wide number stand in a plain RTP packet: LULQ_OK, and their place
+ * in `place`, counted from 0. */
+int32_t lulq_rtp_place(const uint8_t *packet, size_t packet_size, uint32_t id, uint32_t *place);
+
+/* Writes the lowest 16 bits of a number there, high byte first, and changes nothing else of the packet.
+ * Where it is not LULQ_OK, nothing is written. */
+int32_t lulq_rtp_stamp(uint8_t *packet, size_t packet_size, uint32_t id, uint64_t number);
 
 /* A text for each result. */
 static inline const char *lulq_strerror(int32_t result) {

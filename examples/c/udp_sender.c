@@ -15,7 +15,6 @@
 #include <time.h>
 #include <unistd.h>
 
-#define PACE_US 5000
 #define FRAME_US 33333
 #define FEEDBACK_US 50000
 #define PAYLOAD 1100
@@ -130,6 +129,16 @@ static void feed_back(lulq_sender *sender, uint64_t at) {
   if (c < 0) fprintf(stderr, "feedback: %s\n", lulq_strerror(c));
 }
 
+static uint64_t sooner(uint64_t a, uint64_t b) { return a < b ? a : b; }
+
+/* sleeps until a packet may leave, but no longer than the next frame or report lets it */
+static void sleep_until_next(lulq_sender *sender, uint64_t start, uint64_t most) {
+  uint64_t next = most;
+  if (lulq_sender_next_time(sender, &next) < 0) exit(1);
+  const uint64_t wake = sooner(next, most), at = now_us() - start;
+  if (wake > at) nanosleep(&(struct timespec){0, (long)(wake - at) * 1000}, NULL);
+}
+
 int main(int argc, char **argv) {
   const uint64_t seconds = argc > 1 ? strtoull(argv[1], NULL, 10) : 5;
   lulq_sender sender = LULQ_SENDER_INIT;
@@ -147,8 +156,8 @@ int main(int argc, char **argv) {
     receive(in);
     for (; feedback <= at; feedback += FEEDBACK_US) feed_back(&sender, at);
     for (; second <= at; second += 1000000)
-      printf("%2" PRIu64 " s  target %8" PRIu64 " bit/s  sent %6" PRIu64 "  waiting %4" PRIu32 "\n", second / 1000000, rates.target, stats.sent, stats.waiting);
-    nanosleep(&(struct timespec){0, PACE_US * 1000}, NULL);
+      printf("%2" PRIu64 " s  target %8" PRIu64 " bit/s  sent %6" PRIu64 "  credited %6" PRIu64 "  missing %3" PRIu64 "  waiting %4" PRIu32 "\n", second / 1000000, rates.target, stats.sent, stats.credited, stats.missing, stats.waiting);
+    sleep_until_next(&sender, start, sooner(frame, sooner(feedback, second)));
   }
   lulq_sender_free(&sender);
   close(in);

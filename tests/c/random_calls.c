@@ -14,6 +14,8 @@
 
 #define MOST_MOMENT (UINT64_C(1) << 50)
 #define MOST_PACE 64
+#define MOST_ACCEPTED 1000000
+#define WINDOW 32768
 
 static FILE *trace;
 static FILE *told;
@@ -22,6 +24,17 @@ static uint64_t state;
 static uint64_t moment; /* the sender's */
 static uint64_t now;    /* the caller's */
 static uint64_t fetched;
+static uint32_t id = 3; /* of the extension element */
+
+/* the program's own count: what was accepted and is not fetched yet, and what was fetched */
+static struct {
+  uint64_t at[MOST_ACCEPTED];
+  size_t size[MOST_ACCEPTED];
+  uint8_t left[MOST_ACCEPTED];
+  uint32_t accepted, oldest;
+  uint64_t waiting, bytes;
+  lulq_total kind[4];
+} own;
 
 /* what a pace told, written once all of its packets were fetched */
 static struct {
@@ -85,9 +98,28 @@ static void tell_refused(int32_t c) {
 
 static void put16(uint8_t *p, unsigned v) { p[0] = (uint8_t)(v >> 8), p[1] = (uint8_t)v; }
 
+/* the place of the number in a packet, told without a sender as the sender judged it */
+static void place_alone(uint8_t *packet, size_t size, int32_t judged) {
+  static uint8_t copy[1600];
+  uint32_t place = 4242;
+  const uint32_t wrong = below(2) ? 0 : 15 + (uint32_t)below(500);
+  const int32_t c = lulq_rtp_place(packet, size, id, &place);
+  const uint64_t number = word();
+  if (judged == LULQ_OK ? c != LULQ_OK : judged <= -101 && judged >= -105 && c != judged) fail("a place that the sender judges otherwise");
+  if (c == LULQ_OK ? place + 2 > size : place != 4242) fail("a place");
+  memcpy(copy, packet, size);
+  if (lulq_rtp_stamp(copy, size, wrong, number) != LULQ_E_SETTINGS - 4 || memcmp(copy, packet, size)) fail("a wrong id");
+  if (lulq_rtp_stamp(copy, size, id, number) != c) fail("a stamp");
+  if (c == LULQ_OK) {
+    if (copy[place] != (uint8_t)(number >> 8) || copy[place + 1] != (uint8_t)number) fail("the number of a stamp");
+    copy[place] = packet[place];
+    copy[place + 1] = packet[place + 1];
+  }
+  if (memcmp(copy, packet, size)) fail("a stamp wrote elsewhere");
+}
+
 static void enqueue(void) {
   static const char letters[] = "arvf";
-  static uint32_t accepted;
   uint8_t packet[1600] = {0x90, 0x60, 0, 1, 0, 0, 0, 0, 0, 0, 0, 0xaa, 0xbe, 0xde, 0, 1, 0x31, 0, 0, 0};
   size_t size = 20 + below(below(10) ? 300 : 1500);
   uint32_t class = (uint32_t)below(4), index = 77;
@@ -105,8 +137,15 @@ static void enqueue(void) {
   write_hex(packet, size);
   c = lulq_sender_enqueue(&sender, at, class, packet, size, &index);
   pass(at);
+  place_alone(packet, size, c);
   if (c == LULQ_OK) {
-    if (index != accepted++) fail("index");
+    if (index != own.accepted) fail("index");
+    if (index == MOST_ACCEPTED) fail("too many calls");
+    own.at[index] = moment;
+    own.size[index] = size;
+    own.accepted++;
+    own.waiting++;
+    own.bytes += size;
     fprintf(told, "0 accepted %" PRIu64 " %" PRIu32 "\n", moment, index);
   } else {
     if (index != 77) fail("an index was written");
@@ -114,10 +153,50 @@ static void enqueue(void) {
   }
 }
 
-static uint64_t sent(void) {
+static lulq_stats stats_now(void) {
   lulq_stats s;
   if (lulq_sender_stats(&sender, &s) != LULQ_OK) fail("stats");
-  return s.sent;
+  return s;
+}
+
+static uint64_t sent(void) { return stats_now().sent; }
+
+/* a packet was fetched: it waits no longer */
+static void count(const lulq_info *info, size_t size) {
+  own.kind[info->kind].packets++;
+  own.kind[info->kind].bytes += size;
+  if (info->index == LULQ_NONE) return;
+  if (info->index >= own.accepted || own.left[info->index] || own.size[info->index] != size) fail("an index that left");
+  own.left[info->index] = 1;
+  own.waiting--;
+  own.bytes -= size;
+}
+
+static int differ(lulq_total a, lulq_total b) { return a.packets != b.packets || a.bytes != b.bytes; }
+
+/* what the looks tell, against the program's own count; the kinds and the queue once all is fetched */
+static void looks(void) {
+  const lulq_stats s = stats_now();
+  lulq_queue q;
+  if (lulq_sender_queue(&sender, &q) != LULQ_OK) fail("queue");
+  if (s.accepted != own.accepted || s.waiting != q.packets) fail("counts of packets");
+  if (s.sent != s.audio.packets + s.media.packets + s.probes.packets + s.padding.packets) fail("counts by kind");
+  if (s.sent != s.credited + s.outstanding + s.expired || s.outstanding > WINDOW) fail("the balance");
+  if ((q.oldest == LULQ_NO_TIME) != (q.packets == 0)) fail("no oldest packet");
+  if (s.sent != fetched) return;
+  if (differ(s.audio, own.kind[0]) || differ(s.media, own.kind[1]) || differ(s.probes, own.kind[2]) || differ(s.padding, own.kind[3])) fail("sums by kind");
+  while (own.oldest < own.accepted && own.left[own.oldest]) own.oldest++;
+  if (q.packets != own.waiting || q.bytes != own.bytes) fail("what waits");
+  if (q.packets && q.oldest != own.at[own.oldest]) fail("the oldest packet");
+}
+
+/* the sums of the whole, which `run` compares with those of the history */
+static void tell_sums(void) {
+  const lulq_stats s = stats_now();
+  const lulq_total kinds[] = {s.audio, s.media, s.probes, s.padding};
+  fprintf(told, "S %" PRIu64, s.sent);
+  for (unsigned k = 0; k < 4; k++) fprintf(told, " %" PRIu64 " %" PRIu64, kinds[k].packets, kinds[k].bytes);
+  fprintf(told, " %" PRIu64 " %" PRIu64 " %" PRIu64 " %" PRIu64 " %" PRIu32 " %" PRIu32 " %" PRIu32 " %" PRIu32 "\n", s.credited, s.missing, s.expired, s.refused, s.accepted, s.waiting, s.outstanding, s.judged);
 }
 
 /* a pace is told once all its packets were fetched */
@@ -142,6 +221,10 @@ static int32_t pop(uint64_t at) {
   size_t size = 99, room_size = below(8) ? sizeof room : below(60);
   lulq_info info = {1, 2, 3, 4};
   const int serves = sent() == fetched;
+  uint64_t next = 4242;
+  const int32_t tells = lulq_sender_next_time(&sender, &next);
+  if (tells == LULQ_OK ? next < moment || next > MOST_MOMENT : tells != LULQ_NOTHING || next != 4242) fail("a next moment");
+  if (!serves && (tells != LULQ_OK || next != moment)) fail("kept packets are for now");
   memset(room, 0xa5, sizeof room);
   const int32_t c = lulq_sender_pop(&sender, at, room, room_size, &size, &info);
   if (serves && at > MOST_MOMENT) {
@@ -153,9 +236,13 @@ static int32_t pop(uint64_t at) {
     pass(at);
     pace.at = moment;
     pace.count = 0;
+    if ((c == LULQ_NOTHING) != (tells == LULQ_NOTHING || moment < next)) fail("the next moment is another one");
   }
   if (c == LULQ_OK) {
+    uint32_t place;
     if (size > room_size || info.number != fetched++) fail("a packet");
+    if (lulq_rtp_place(room, size, id, &place) != LULQ_OK || (room[place] << 8 | room[place + 1]) != (int)(info.number & 0xffff)) fail("the number in a packet");
+    count(&info, size);
     for (size_t k = size; k < sizeof room; k++) if (room[k] != 0xa5) fail("bytes behind the packet were written");
     if (pace.count == MOST_PACE) fail("a pace of too many");
     pace.info[pace.count] = info;
@@ -173,8 +260,15 @@ static int32_t pop(uint64_t at) {
   return c;
 }
 
+/* the moment of a pop: now and then the next one at which a packet may leave, or the one before */
+static uint64_t pop_moment(void) {
+  uint64_t next;
+  if (below(3) || lulq_sender_next_time(&sender, &next) != LULQ_OK || next < now || next > now + 1000000) return next_moment();
+  return now = next - (next > now && below(2));
+}
+
 static void pops(void) {
-  uint64_t at = next_moment();
+  uint64_t at = pop_moment();
   do {
     if (pop(at) < 0) return;
   } while (sent() != fetched || below(3));
@@ -317,6 +411,7 @@ static void configure(void) {
   fprintf(trace, "]}\n");
   c = lulq_sender_configure(&sender, at, &s, streams, stream_count, removed, removed_count);
   pass(at);
+  if (c == LULQ_OK && s.named & LULQ_SET_EXTENSION_ID) id = (uint32_t)s.extension_id;
   if (c == LULQ_OK) {
     fprintf(told, "0 configured %" PRIu64, moment);
     tell_rates();
@@ -333,12 +428,16 @@ static void closed(void) {
   size_t b = 6;
   lulq_info info = {1, 2, 3, 4};
   lulq_rates rates = {1, 2, 3, 4};
-  lulq_stats stats = {1, 2, 3, 4, 5};
+  lulq_stats stats;
+  lulq_queue queue = {1, 2, 3, 4};
+  uint64_t next = 7;
   lulq_share share = {1, 2};
   lulq_settings settings;
   lulq_stream stream;
   memset(&settings, 0, sizeof settings);
   memset(&stream, 0, sizeof stream);
+  memset(&stats, 1, sizeof stats);
+  const lulq_stats before = stats;
   if (below(4) == 0) {
     if (lulq_sender_new(&other) != LULQ_OK || lulq_sender_new(&other) != LULQ_E_ALREADY_OPEN) fail("new");
     if (below(2) && lulq_sender_enqueue(&other, 1, LULQ_VIDEO, bytes, 0, &a) != LULQ_E_PACKET - 1) fail("an empty packet");
@@ -347,9 +446,10 @@ static void closed(void) {
   if (lulq_sender_enqueue(&other, now, 0, bytes, sizeof bytes, &a) != LULQ_E_NOT_OPEN || lulq_sender_pop(&other, now, bytes, sizeof bytes, &b, &info) != LULQ_E_NOT_OPEN ||
       lulq_sender_feedback(&other, now, bytes, sizeof bytes, &a) != LULQ_E_NOT_OPEN || lulq_sender_rates(&other, &rates) != LULQ_E_NOT_OPEN ||
       lulq_sender_stats(&other, &stats) != LULQ_E_NOT_OPEN || lulq_sender_share(&other, 0, &share) != LULQ_E_NOT_OPEN ||
-      lulq_sender_configure(&other, now, &settings, &stream, 0, &a, 0) != LULQ_E_NOT_OPEN)
+      lulq_sender_configure(&other, now, &settings, &stream, 0, &a, 0) != LULQ_E_NOT_OPEN ||
+      lulq_sender_next_time(&other, &next) != LULQ_E_NOT_OPEN || lulq_sender_queue(&other, &queue) != LULQ_E_NOT_OPEN)
     fail("a closed handle was followed");
-  if (a != 5 || b != 6 || info.number != 1 || rates.delay != 1 || stats.sent != 1 || share.rate != 1) fail("a closed handle wrote");
+  if (a != 5 || b != 6 || info.number != 1 || rates.delay != 1 || memcmp(&stats, &before, sizeof stats) || share.rate != 1 || next != 7 || queue.bytes != 1) fail("a closed handle wrote");
 }
 
 int main(int argc, char **argv) {
@@ -370,7 +470,9 @@ int main(int argc, char **argv) {
     case 5: case 6: case 7: case 8: case 9: pops(); break;
     default: enqueue(); break;
     }
+    looks();
   }
+  tell_sums();
   fprintf(trace, "end\n");
   lulq_sender_free(&sender);
   lulq_sender_free(&sender);

@@ -43,6 +43,15 @@ pub struct Stream {
 
 #[repr(C)]
 #[derive(Default)]
+pub struct Queue {
+    pub bytes: u64,
+    pub oldest: u64,
+    pub drain_time: u64,
+    pub packets: u32,
+}
+
+#[repr(C)]
+#[derive(Default)]
 pub struct Share {
     pub rate: u64,
     pub id: u32,
@@ -57,6 +66,10 @@ extern "C" {
     pub fn lulq_sender_feedback(sender: *mut Handle, now: u64, rtcp: *const u8, rtcp_size: usize, place: *mut u32) -> i32;
     pub fn lulq_sender_configure(sender: *mut Handle, now: u64, settings: *const Settings, streams: *const Stream, stream_count: usize, removed: *const u32, removed_count: usize) -> i32;
     pub fn lulq_sender_rates(sender: *mut Handle, rates: *mut crate::Rates) -> i32;
+    pub fn lulq_sender_next_time(sender: *mut Handle, at: *mut u64) -> i32;
+    pub fn lulq_sender_queue(sender: *mut Handle, queue: *mut Queue) -> i32;
     pub fn lulq_sender_stats(sender: *mut Handle, stats: *mut crate::Stats) -> i32;
     pub fn lulq_sender_share(sender: *mut Handle, place: u32, share: *mut Share) -> i32;
+    pub fn lulq_rtp_place(packet: *const u8, packet_size: usize, id: u32, place: *mut u32) -> i32;
+    pub fn lulq_rtp_stamp(packet: *mut u8, packet_size: usize, id: u32, number: u64) -> i32;
 }

@@ -9,8 +9,9 @@ mod ffi;
 
 pub use error::Error;
 
-const ABI: u32 = 1;
+const ABI: u32 = 2;
 const NONE: u32 = 0xffff_ffff;
+const NO_TIME: u64 = u64::MAX;
 
 /// What a packet carries.
 #[derive(Clone, Copy, PartialEq, Eq, Debug)]
@@ -57,14 +58,50 @@ pub struct Rates {
     pub pacing: u64,
 }
 
-/// How many packets and reports there were.
+/// The packets that wait.
+#[derive(Clone, Copy, PartialEq, Eq, Debug, Default)]
+pub struct Queue {
+    pub packets: u32,
+    pub bytes: u64,
+    /// When the oldest of them was accepted, in microseconds; none where nothing waits.
+    pub oldest: Option<u64>,
+    /// The time in which the rate in force sends them all, in microseconds and rounded up; none where
+    /// that rate is 0.
+    pub drain_time: Option<u64>,
+}
+
+/// How many packets, and their bytes.
+#[repr(C)]
+#[derive(Clone, Copy, PartialEq, Eq, Debug, Default)]
+pub struct Total {
+    pub packets: u64,
+    pub bytes: u64,
+}
+
+/// How many packets and reports there were, from the first call on.
 #[repr(C)]
 #[derive(Clone, Copy, PartialEq, Eq, Debug, Default)]
 pub struct Stats {
+    /// The packets that were sent, padding among them: those of the four kinds together.
     pub sent: u64,
+    pub audio: Total,
+    pub media: Total,
+    pub probes: Total,
+    pub padding: Total,
+    /// The sent packets that a report credited.
+    pub credited: u64,
+    /// The sent packets that a report said were missing, each once. A later report may credit one all
+    /// the same.
+    pub missing: u64,
+    /// The sent packets that no report credited, and none can any more.
+    pub expired: u64,
+    /// The packets, reports and changes that were refused.
+    pub refused: u64,
     pub accepted: u32,
     pub waiting: u32,
+    /// Those of the sent packets that a report may still credit.
     pub outstanding: u32,
+    /// The reports that were judged.
     pub judged: u32,
 }
 
@@ -143,6 +180,14 @@ impl Sender {
         }
     }
 
+    /// When to call `pop` next, in microseconds: at this moment it has a packet if no other call comes
+    /// before, and from the moment of the last call to it, it has none. None where no moment has one.
+    pub fn next_time(&mut self) -> Option<u64> {
+        let mut at = 0;
+        let code = unsafe { ffi::lulq_sender_next_time(&mut self.handle, &mut at) };
+        Some(at).filter(|_| code == 0)
+    }
+
     /// Hands in RTCP, compound or of reduced size: each transport-wide report in it is served.
     pub fn feedback(&mut self, now: u64, rtcp: &[u8]) -> Result<(), Error> {
         let mut place = 0;
@@ -165,6 +210,18 @@ impl Sender {
         let mut rates = Rates::default();
         let _open = unsafe { ffi::lulq_sender_rates(&mut self.handle, &mut rates) };
         rates
+    }
+
+    /// The packets that wait.
+    pub fn queue(&mut self) -> Queue {
+        let mut queue = ffi::Queue::default();
+        let _open = unsafe { ffi::lulq_sender_queue(&mut self.handle, &mut queue) };
+        Queue {
+            packets: queue.packets,
+            bytes: queue.bytes,
+            oldest: time_of(queue.oldest),
+            drain_time: time_of(queue.drain_time),
+        }
     }
 
     /// How many packets and reports there were.
@@ -193,6 +250,23 @@ impl Drop for Sender {
     fn drop(&mut self) {
         unsafe { ffi::lulq_sender_free(&mut self.handle) }
     }
+}
+
+/// Where the two bytes of the transport-wide number stand in a plain RTP packet, counted from 0, under this
+/// ID of the extension element (1 to 14).
+pub fn rtp_place(packet: &[u8], id: u32) -> Result<usize, Error> {
+    let mut place = 0;
+    Error::of(unsafe { ffi::lulq_rtp_place(packet.as_ptr(), packet.len(), id, &mut place) }, 0)?;
+    Ok(place as usize)
+}
+
+/// Writes the lowest 16 bits of a number there. On an error the packet is as before.
+pub fn rtp_stamp(packet: &mut [u8], id: u32, number: u64) -> Result<(), Error> {
+    Error::of(unsafe { ffi::lulq_rtp_stamp(packet.as_mut_ptr(), packet.len(), id, number) }, 0)
+}
+
+fn time_of(told: u64) -> Option<u64> {
+    Some(told).filter(|time| *time != NO_TIME)
 }
 
 fn packet_of(info: &ffi::Info, size: usize) -> Packet {

@@ -1,6 +1,6 @@
 //! One happy path, and each kind of refusal.
 
-use lulqoter::{Change, Class, Error, Kind, Sender, Stream};
+use lulqoter::{rtp_place, rtp_stamp, Change, Class, Error, Kind, Queue, Sender, Stream, Total};
 
 const VIDEO: [u8; 20] = [
     0x90, 0x60, 0, 1, 0, 0, 0, 0, 0, 0, 0, 0xaa, 0xbe, 0xde, 0, 1, 0x31, 0, 0, 0,
@@ -16,16 +16,26 @@ fn packets_leave_stamped_and_are_credited() {
     let mut room = [0u8; 1_500];
     assert_eq!(sender.enqueue(1_000, Class::Video, &VIDEO), Ok(0));
     assert_eq!(sender.enqueue(1_000, Class::Audio, &VIDEO), Ok(1));
+    let queue = sender.queue();
+    assert_eq!((queue.packets, queue.bytes, queue.oldest), (2, 40, Some(1_000)));
+    // audio leaves at once
+    assert_eq!(sender.next_time(), Some(1_000));
     assert_eq!(sender.pop(2_000, &mut room[..9]), Err(Error::TooSmall(20)));
+    assert_eq!(sender.next_time(), Some(2_000));
     let first = sender.pop(2_000, &mut room).unwrap().unwrap();
     assert_eq!((first.number, first.index, first.kind, first.size), (0, Some(1), Kind::Audio, 20));
     let second = sender.pop(2_000, &mut room).unwrap().unwrap();
     assert_eq!((second.number, second.index, second.kind), (1, Some(0), Kind::Media));
     assert_eq!(room[18], 1);
     assert_eq!(sender.pop(2_000, &mut room), Ok(None));
+    assert_eq!(sender.next_time(), None);
+    assert_eq!(sender.queue(), Queue { drain_time: Some(0), ..Queue::default() });
     assert_eq!(sender.feedback(3_000, &REPORT), Ok(()));
     let stats = sender.stats();
     assert_eq!((stats.sent, stats.accepted, stats.outstanding, stats.judged), (2, 2, 0, 1));
+    let one = Total { packets: 1, bytes: 20 };
+    assert_eq!((stats.audio, stats.media, stats.probes, stats.padding), (one, one, Total::default(), Total::default()));
+    assert_eq!((stats.credited, stats.missing, stats.expired, stats.refused), (2, 0, 0, 0));
     assert_eq!(sender.rates().target, 300_000);
 }
 
@@ -49,4 +59,14 @@ fn a_sender_goes_to_another_thread() {
     let mut sender = Sender::new().unwrap();
     let index = std::thread::spawn(move || sender.enqueue(5, Class::Video, &VIDEO));
     assert_eq!(index.join().unwrap(), Ok(0));
+}
+
+#[test]
+fn a_packet_is_stamped_without_a_sender() {
+    let mut packet = VIDEO;
+    assert_eq!(rtp_place(&packet, 3), Ok(17));
+    assert_eq!(rtp_stamp(&mut packet, 3, 0x1_0203), Ok(()));
+    assert_eq!((packet[17], packet[18]), (2, 3));
+    assert_eq!(rtp_place(&packet, 0), Err(Error::Settings(4)));
+    assert_eq!(rtp_stamp(&mut packet[..11], 3, 1), Err(Error::Packet(1)));
 }

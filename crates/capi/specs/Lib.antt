@@ -4,3 +4,4 @@ pub mod Outcomes
 pub mod Hearing
 pub mod Looking
 pub mod Changing
+pub mod Stamping

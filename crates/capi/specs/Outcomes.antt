@@ -119,3 +119,12 @@ abbrev pub share_in : ShareTold → Result (Option ShareTold) Fault → ShareTol
 share_in old (Ok (Some share)) = share
 share_in old (Ok None) = old
 share_in old (Err cause) = old
+
+-- 0 for a moment, 1 where there is none
+abbrev pub moment_code : Option ℕ → ℤ
+moment_code None = pos 1
+moment_code (Some moment) = pos 0
+
+abbrev pub moment_in : ℕ → Option ℕ → ℕ
+moment_in old None = old
+moment_in old (Some moment) = moment

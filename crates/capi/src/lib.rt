@@ -8,12 +8,16 @@ mod feedback;
 mod looking;
 mod popping;
 mod sender;
+mod stamping;
 mod telling;
 
 pub use changing::{Settings, StreamGiven};
 pub use fault::Fault;
 pub use feedback::Heard;
-pub use looking::{RatesTold, ShareTold, StatsTold};
+pub use looking::{NO_TIME, QueueTold, RatesTold, ShareTold, StatsTold, TotalTold};
 pub use popping::Popped;
 pub use sender::Sender;
-pub use telling::{Info, NO_INDEX, tell_done, tell_heard, tell_index, tell_popped, tell_share};
+pub use stamping::{place_in, stamp};
+pub use telling::{
+    Info, NO_INDEX, tell_done, tell_heard, tell_index, tell_moment, tell_popped, tell_share,
+};

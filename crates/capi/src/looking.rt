@@ -5,11 +5,12 @@ ghost use Rattle.std.specs.Option.{option_map};
 ghost use Rattle.send_core.specs.declared.call.Entry.{Entry};
 ghost use Rattle.live_sender.specs.Live.{StandsFor};
 ghost use Rattle.capi.specs.declared.fault.Fault.TheVariants as fault;
-ghost use Rattle.capi.specs.Looking.{rates_told, share_told, rates_after, stats_after, share_after};
+ghost use Rattle.capi.specs.Looking.{moment_told, rates_told, queue_told, total_told, stats_told, share_told, rates_after, queue_after, stats_after, share_after};
 
 use crate::fault::Fault;
 use crate::sender::Sender;
 use gcc_units::Share;
+use live_sender::{Counters, Queue, Total};
 use send_core::Rates;
 use std::alloc::Global;
 
@@ -27,12 +28,55 @@ pub struct RatesTold {
     pub pacing: u64,
 }
 
+/// A moment or a time that there is not.
+pub const NO_TIME: u64 = 0xffff_ffff_ffff_ffff;
+
+/// The packets that wait.
+#[repr(C)]
+#[derive(Clone, Copy)]
+pub struct QueueTold {
+    /// Their bytes.
+    pub bytes: u64,
+    /// When the oldest of them was accepted, in microseconds; `NO_TIME` where nothing waits.
+    pub oldest: u64,
+    /// The time in which the rate in force sends them all, in microseconds and rounded up; `NO_TIME`
+    /// where that rate is 0.
+    pub drain_time: u64,
+    /// How many wait.
+    pub packets: u32,
+}
+
+/// How many packets, and their bytes.
+#[repr(C)]
+#[derive(Clone, Copy)]
+pub struct TotalTold {
+    pub packets: u64,
+    pub bytes: u64,
+}
+
 /// How many packets and reports there were.
 #[repr(C)]
 #[derive(Clone, Copy)]
 pub struct StatsTold {
     /// The packets that were sent, padding among them.
     pub sent: u64,
+    /// Those of them that were audio which no budget held back.
+    pub audio: TotalTold,
+    /// Media within the budget.
+    pub media: TotalTold,
+    /// Packets of probe clusters.
+    pub probes: TotalTold,
+    /// Packets that carry no media.
+    pub padding: TotalTold,
+    /// The sent packets that a report credited.
+    pub credited: u64,
+    /// The sent packets that a report said were missing, each counted once. A later report may credit
+    /// it all the same.
+    pub missing: u64,
+    /// The sent packets that no report credited, and none can any more.
+    pub expired: u64,
+    /// The calls that were refused, at most 2^64 - 1.
+    pub refused: u64,
     /// The accepted packets.
     pub accepted: u32,
     /// Those of them that wait.
@@ -64,6 +108,56 @@ fn rates_told(rates: Rates) -> RatesTold
     }
 }
 
+fn moment_told(moment: Option<u64>) -> u64
+    ensures { result ≡ moment_told moment }
+{
+    match moment {
+        None => NO_TIME,
+        Some(moment) => moment,
+    }
+}
+
+fn queue_told(queue: Queue) -> QueueTold
+    ensures { result ≡ queue_told queue }
+{
+    QueueTold {
+        bytes: queue.bytes,
+        oldest: moment_told(queue.oldest),
+        drain_time: moment_told(queue.drain_time),
+        packets: queue.packets,
+    }
+}
+
+fn total_told(total: Total) -> TotalTold
+    ensures { result ≡ total_told total }
+{
+    TotalTold {
+        packets: total.packets,
+        bytes: total.bytes,
+    }
+}
+
+fn stats_told(counters: Counters) -> StatsTold
+    ensures { result ≡ stats_told counters }
+{
+    let sent_as = counters.sent_as;
+    StatsTold {
+        sent: counters.sent,
+        audio: total_told(sent_as.audio),
+        media: total_told(sent_as.media),
+        probes: total_told(sent_as.probes),
+        padding: total_told(sent_as.padding),
+        credited: counters.credited,
+        missing: counters.missing,
+        expired: counters.expired,
+        refused: counters.refused,
+        accepted: counters.accepted,
+        waiting: counters.waiting,
+        outstanding: counters.outstanding,
+        judged: counters.judged,
+    }
+}
+
 fn share_told(share: Option<Share>) -> Option<ShareTold>
     ensures { result ≡ option_map share_told share }
 {
@@ -84,18 +178,18 @@ impl Sender {
         rates_told(self.live.rates())
     }
 
+    /// The packets that wait.
+    pub fn queue(&self) -> QueueTold
+        ensures { (history : List Entry) → StandsFor self.now.live history → result ≡ queue_after history }
+    {
+        queue_told(self.live.queue())
+    }
+
     /// How many packets and reports there were.
     pub fn stats(&self) -> StatsTold
         ensures { (history : List Entry) → StandsFor self.now.live history → result ≡ stats_after history }
     {
-        let counters = self.live.counters();
-        StatsTold {
-            sent: counters.sent,
-            accepted: counters.accepted,
-            waiting: counters.waiting,
-            outstanding: counters.outstanding,
-            judged: counters.judged,
-        }
+        stats_told(self.live.counters())
     }
 
     /// The share of this place, counted from 0 in rising order of the streams' ids, if there is one.

@@ -10,10 +10,11 @@ ghost use Rattle.capi.specs.declared.fault.Fault.TheVariants as fault;
 ghost use Rattle.capi.specs.Codes.{IfExhausted};
 ghost use Rattle.capi.specs.Serving.{Serves, Leaving, IsFetched, has_any, filled, popped, leaving};
 ghost use Rattle.capi.specs.Outcomes.{Pops};
+ghost use Rattle.capi.specs.Looking.{IsNextTime};
 
 use crate::fault::{Fault, fault_of};
 use crate::sender::Sender;
-use gcc_units::GREATEST_MOMENT;
+use gcc_units::{GREATEST_MOMENT, Moment};
 use pacer::{Sent, SentList};
 use send_core::{Answer, Cause, Reply};
 use std::alloc::Global;
@@ -141,5 +142,18 @@ impl Sender {
     {
         self.fill(alloc, at)?;
         Ok(self.fetch(room))
+    }
+
+    /// When to call `pop` next, in microseconds, if no other call comes before it: at the moment of the
+    /// last call where packets of the last pace were not fetched yet, else at the first moment from it
+    /// on at which a pace sends something. `None` where none up to `GREATEST_MOMENT` does.
+    #[tactic(auto, using(crate::proofs::NextTimes::next_kept, crate::proofs::NextTimes::next_paced))]
+    pub fn next_time(&self) -> Option<Moment>
+        ensures { IsNextTime self.now result }
+    {
+        if !self.has_kept() {
+            return self.live.next_send();
+        }
+        Some(self.live.moment())
     }
 }

@@ -1,7 +1,7 @@
 //! What C is told of an outcome.
 
 ghost use Rattle.std.specs.Prelude.{◌≡◌};
-ghost use Rattle.capi.specs.Outcomes.{code_in, told_in, popped_code, size_in, index_told, kind_told, cluster_told, info_told, info_in, told_code, heard_code, place_in, share_code, share_in};
+ghost use Rattle.capi.specs.Outcomes.{code_in, told_in, popped_code, size_in, index_told, kind_told, cluster_told, info_told, info_in, told_code, heard_code, place_in, share_code, share_in, moment_code, moment_in};
 
 use crate::fault::Fault;
 use crate::feedback::Heard;
@@ -142,6 +142,20 @@ pub fn tell_share(outcome: Result<Option<ShareTold>, Fault>, share: &mut ShareTo
         }
         Ok(None) => 1,
         Err(fault) => fault.code(),
+    }
+}
+
+/// Writes a moment: 0, or 1 where there is none.
+pub fn tell_moment(told: Option<u64>, at: &mut u64) -> i32
+    ensures code { result ≡ moment_code told }
+    ensures at { at.new ≡ moment_in at.old told }
+{
+    match told {
+        None => 1,
+        Some(moment) => {
+            *at = moment;
+            0
+        }
     }
 }
 

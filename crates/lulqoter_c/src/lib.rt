@@ -12,22 +12,23 @@ ghost use Rattle.capi.specs.declared.looking.ShareTold.{ShareTold};
 ghost use Rattle.send_core.specs.declared.call.Entry.{Entry};
 ghost use Rattle.capi.specs.Changing.{Configures};
 ghost use Rattle.capi.specs.Hearing.{Hears};
-ghost use Rattle.capi.specs.Looking.{rates_after, stats_after, share_after};
-ghost use Rattle.capi.specs.Outcomes.{Enqueues, Pops, code_in, told_in, popped_code, size_in, info_in, heard_code, place_in, share_code, share_in};
+ghost use Rattle.capi.specs.Looking.{IsNextTime, rates_after, queue_after, stats_after, share_after};
+ghost use Rattle.capi.specs.Outcomes.{Enqueues, Pops, code_in, told_in, popped_code, size_in, info_in, heard_code, place_in, share_code, share_in, moment_code, moment_in};
+ghost use Rattle.capi.specs.Stamping.{Places, Stamps};
 ghost use Rattle.lulqoter_c.specs.Holds.{HoldsOne};
 
 mod handle;
 
 use capi::{
-    Fault, Info, RatesTold, Sender, Settings, ShareTold, StatsTold, StreamGiven, tell_done,
-    tell_heard, tell_index, tell_popped, tell_share,
+    Fault, Info, QueueTold, RatesTold, Sender, Settings, ShareTold, StatsTold, StreamGiven,
+    place_in, stamp, tell_done, tell_heard, tell_index, tell_moment, tell_popped, tell_share,
 };
 use handle::Handle;
 use std::alloc::Global;
 use std::mem::replace;
 
 /// What a header must have been written for: the number of this interface.
-const ABI: u32 = 1;
+const ABI: u32 = 2;
 
 /// The version: 100 times the major number, and the minor one.
 const VERSION: u32 = 3;
@@ -124,6 +125,22 @@ pub extern "C" fn lulq_sender_pop(
     tell_popped(outcome, size, info)
 }
 
+/// Tells when to pop next. 0 and the moment; 1 where no moment has a packet; or -1 where there is no
+/// sender.
+#[unsafe(no_mangle)]
+pub extern "C" fn lulq_sender_next_time(alloc: Global, sender: &mut Handle, at: &mut u64) -> i32
+    ensures stays { sender.new.held ≡ sender.old.held }
+    ensures closed { sender.old.held ≡ None → (result ≡ negsuc 0) × (at.new ≡ at.old) }
+    ensures told { IfSome sender.old.held (λ s. (told : Option ℕ) × IsNextTime s told × (result ≡ moment_code told) × (at.new ≡ moment_in at.old told)) }
+{
+    let Some(held) = take(alloc, sender) else {
+        return Fault::NotOpen.code();
+    };
+    let told = held.next_time();
+    *sender = Handle::of(held);
+    tell_moment(told, at)
+}
+
 /// Hands in an RTCP packet, compound or of reduced size: each transport-wide report in it is served.
 /// 0, or the number of what stopped them, or else of the first refusal. Where bytes are left that
 /// are no packet of RTCP, nothing is served, and their place is written.
@@ -187,6 +204,25 @@ pub extern "C" fn lulq_sender_rates(
     0
 }
 
+/// Writes what waits. 0, or -1 where there is no sender.
+#[unsafe(no_mangle)]
+pub extern "C" fn lulq_sender_queue(
+    alloc: Global,
+    sender: &mut Handle,
+    queue: &mut QueueTold,
+) -> i32
+    ensures stays { sender.new.held ≡ sender.old.held }
+    ensures closed { sender.old.held ≡ None → (result ≡ negsuc 0) × (queue.new ≡ queue.old) }
+    ensures told { IfSome sender.old.held (λ s. (result ≡ pos 0) × ((history : List Entry) → StandsFor s.live history → queue.new ≡ queue_after history)) }
+{
+    let Some(held) = take(alloc, sender) else {
+        return Fault::NotOpen.code();
+    };
+    *queue = held.queue();
+    *sender = Handle::of(held);
+    0
+}
+
 /// Writes how many packets and reports there were. 0, or -1 where there is no sender.
 #[unsafe(no_mangle)]
 pub extern "C" fn lulq_sender_stats(
@@ -225,6 +261,23 @@ pub extern "C" fn lulq_sender_share(
     let outcome = held.share(alloc, k);
     *sender = Handle::of(held);
     tell_share(outcome, share)
+}
+
+/// Writes where the two bytes of the transport-wide number stand in a packet. 0, or the number of the
+/// cause.
+#[unsafe(no_mangle)]
+pub extern "C" fn lulq_rtp_place(packet: &[u8], id: u32, place: &mut u32) -> i32
+    ensures { (outcome : Result ℕ Fault) × Places packet.now id outcome × (result ≡ code_in outcome) × (place.new ≡ told_in place.old outcome) }
+{
+    tell_index(place_in(packet, id), place)
+}
+
+/// Stamps a packet in place with the lowest 16 bits of a number. 0, or the number of the cause.
+#[unsafe(no_mangle)]
+pub extern "C" fn lulq_rtp_stamp(packet: &mut [u8], id: u32, number: u64) -> i32
+    ensures { (outcome : Result (Unit {0}) Fault) × Stamps packet.old packet.new id number outcome × (result ≡ code_in outcome) }
+{
+    tell_done(stamp(packet, id, number))
 }
 
 /// The number of this interface.

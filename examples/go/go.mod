@@ -1,0 +1,3 @@
+module lulqoter/examples/go
+
+go 1.19

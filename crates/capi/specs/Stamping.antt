@@ -4,6 +4,7 @@ use Rattle.rtp_wire.specs.declared.packet.WireFault.{WireFault}
 use Rattle.rtp_wire.specs.Place.{place_of}
 use Rattle.rtp_wire.specs.Stamp.{stamped}
 use Rattle.send_core.specs.declared.call.Cause.TheVariants.{Wire, Config}
+use Rattle.send_core.specs.declared.settings.TheConstants.{LEAST_EXTENSION, GREATEST_EXTENSION}
 use Rattle.capi.specs.declared.fault.Fault.{Fault}
 use Rattle.capi.specs.declared.fault.Fault.TheVariants.{Refused}
 use Rattle.capi.specs.declared.stamping.TheConstants.{ID_CHECK}
@@ -15,9 +16,9 @@ placed (Err fault) = Err (Refused (Wire fault))
 
 -- the place was asked for, under this ID
 pub record Places (packet : List ℕ) (id : ℕ) (outcome : Result ℕ Fault) : Type 0 where
-  pub low : id < 1 → outcome ≡ Err (Refused (Config ID_CHECK))
-  pub high : 14 < id → outcome ≡ Err (Refused (Config ID_CHECK))
-  pub place : 1 ≤ id → id ≤ 14 → outcome ≡ placed (place_of id packet)
+  pub low : id < LEAST_EXTENSION → outcome ≡ Err (Refused (Config ID_CHECK))
+  pub high : GREATEST_EXTENSION < id → outcome ≡ Err (Refused (Config ID_CHECK))
+  pub place : LEAST_EXTENSION ≤ id → id ≤ GREATEST_EXTENSION → outcome ≡ placed (place_of id packet)
 
 -- the packet with the lowest 16 bits of the number at its place, or as before
 abbrev pub stamped_in : List ℕ → ℕ → Result ℕ Fault → List ℕ

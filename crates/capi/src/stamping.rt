@@ -7,19 +7,19 @@ ghost use Rattle.capi.specs.Stamping.{Places, Stamps};
 
 use crate::fault::Fault;
 use rtp_wire::read_wire;
-use send_core::Cause;
+use send_core::{Cause, GREATEST_EXTENSION, LEAST_EXTENSION};
 
 /// The check of the settings that an ID of the extension element fails, where it is not 1 to 14.
 pub const ID_CHECK: u32 = 4;
 
 /// Where the two bytes of the transport-wide number stand in a packet, counted from 0, under this ID of
 /// the extension element. `Refused` with the check that fails first, of the packet or, of an ID
-/// that is not 1 to 14, of the settings.
+/// that is not 1 to 14, of the settings (RFC 8285, section 4.2).
 pub fn place_in(packet: &[u8], id: u32) -> Result<u32, Fault>
     ensures place { Places packet.now id result }
     ensures inside { IfOk result (λ place. place + 2 ≤ length packet.now) }
 {
-    if id < 1 || id > 14 {
+    if u64::from(id) < LEAST_EXTENSION || u64::from(id) > GREATEST_EXTENSION {
         return Err(Fault::Refused(Cause::Config(ID_CHECK)));
     }
     match read_wire(packet, id as u8) {

@@ -6,3 +6,9 @@ pub mod Probing
 pub mod Rule
 pub mod Steps
 pub mod Laws
+pub mod Given
+pub mod AsLists
+pub mod Moving
+pub mod Promises
+pub mod DrainLists
+pub mod LossLists

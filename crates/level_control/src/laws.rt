@@ -1,5 +1,10 @@
-//! What holds of each report, for every state: functions that do nothing, whose contracts are the laws.
+//! What holds of each report, for every state, and of every list of reports and settings: functions that do nothing,
+//! whose contracts are the laws.
 
+ghost use Rattle.level_control.specs.Promises.{AllCutsOfTheListLieApart, DrainsOfTheListEndLow, OwnDrainsEndLower, AllReportsGrowSlowly};
+ghost use Rattle.level_control.specs.DrainLists.{DrainsAreThoseOfTheList};
+ghost use Rattle.level_control.specs.Moving.{MovingChangesNoAnswer};
+ghost use Rattle.level_control.specs.AsLists.{BasesAreThoseOfTheList, ChangesAreThoseOfTheList, FloorsAreThoseOfTheList};
 ghost use Rattle.level_control.specs.Laws.{LevelsLieInRange, CutsAreShown, SecondCutsAreShown, AllCutsLieApart, AllGrowSlowly, TriedSharesAreShown, DrainsEndLow};
 
 /// The level lies between 25 ms and the greater of 100 ms and four mean changes.
@@ -14,17 +19,45 @@ pub fn cuts_are_shown()
     ensures tried { TriedSharesAreShown }
 {}
 
-/// Between two cuts of one drain lies at least the round trip of the first.
+/// Between two cuts lies at least the round trip of the first: of those of one drain, and of all in a list without a
+/// start.
 pub fn cuts_lie_apart()
-    ensures { AllCutsLieApart }
+    ensures drain { AllCutsLieApart }
+    ensures list { AllCutsOfTheListLieApart }
 {}
 
-/// A rate grows by at most 8 % or 60 roots a second, and never beyond one and a half of the received rate.
+/// A rate grows by at most 8 % or 60 roots a second, and never beyond one and a half of the received rate: at a step,
+/// and at each report between drains before results of probes.
 pub fn rates_grow_slowly()
-    ensures { AllGrowSlowly }
+    ensures step { AllGrowSlowly }
+    ensures reports { AllReportsGrowSlowly }
 {}
 
-/// At its end a drain leaves at most the greater of the rate and what the path carried.
+/// At its end a drain leaves at most the greater of the rate and what the path carried: at most the greater of what
+/// the rate was and the rate before the first cut, but for a least rate; where others hold no queue, at most the
+/// greater of what it was and 92 % of the capacity.
 pub fn drains_end_low()
-    ensures { DrainsEndLow }
+    ensures end { DrainsEndLow }
+    ensures list { DrainsOfTheListEndLow }
+    ensures own { OwnDrainsEndLower }
+{}
+
+/// Base, floor and mean change are those of the list of all reports: the base is the least delay since the last cut
+/// whose drain has ended, the floor the least of this spell and the one before it.
+pub fn delays_are_those_of_the_list()
+    ensures base { BasesAreThoseOfTheList }
+    ensures change { ChangesAreThoseOfTheList }
+    ensures floor { FloorsAreThoseOfTheList }
+{}
+
+/// Moving all arrivals by a whole number of quarter-milliseconds changes no rate, signal or cluster: the clocks of
+/// sender and receiver need not agree.
+pub fn moving_changes_no_answer()
+    ensures { MovingChangesNoAnswer }
+{}
+
+/// A drain is that of the list from its last cut on: its lowest delay, its deepest queue before the cut could show,
+/// and its falls.
+pub fn drains_are_those_of_the_list()
+    ensures { DrainsAreThoseOfTheList }
 {}

@@ -1,0 +1,9 @@
+pub mod Turns
+pub mod Bases
+pub mod Floors
+pub mod Moved
+pub mod Apart
+pub mod Lowering
+pub mod Growing
+pub mod Falls
+pub mod Windows

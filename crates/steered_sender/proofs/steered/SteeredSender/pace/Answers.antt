@@ -1,0 +1,45 @@
+use Rattle.std.proofs.Common.{◌≡◌, ℕ, ◌==◌, false, inl, inr, Option, Some, None, Result, Ok, Err, List, [], ◌∷◌, ◌++◌, refl, sym, ◌∙◌, ap, subst}
+use Rattle.send_core.specs.declared.call.Call.TheVariants as call
+use Rattle.send_core.specs.declared.call.Entry.{Entry}
+use Rattle.send_core.specs.History.{entry}
+use Rattle.live_sender.specs.Live.{Live}
+use Rattle.live_sender.specs.Live as live
+use Rattle.steered_sender.specs.declared.steering.Steering.{Steering}
+use Rattle.steered_sender.specs.Steered.{with_wanted}
+use Rattle.steered_sender.specs.Standing.{Kept, StandsFor, SteersIf, IsBehind, served, wanted_of}
+use Rattle.steered_sender.proofs.Results.{by-result, at-ok, at-err, on-ok, on-err, both-ok}
+use Rattle.steered_sender.proofs.steered.SteeredSender.pace.Goals as goal
+
+pub pace_if-requires-clause-stands : goal.pace_if-requires-clause-stands
+pace_if-requires-clause-stands c =
+    let h : List Entry = c.self.invariant.0 in
+    let t : StandsFor (record { sender = c.self.inside.sender; steering = c.self.inside.steering }) h = c.self.invariant.1 in
+    let m : List Entry = with_wanted h (wanted_of c.self.inside.steering) in
+    let x : live.StandsFor c.serve_if.new.sender m = c.in-Ok.ensures.sender h t.sender in
+    let y : SteersIf c.serve_if.new.steering m = c.in-Ok.ensures.steering h t.sender t.steering in
+    (m, x, y)
+
+pub invariant_of-self-in-Ok : goal.invariant_of-self-in-Ok
+invariant_of-self-in-Ok c =
+    let h : List Entry = c.self.invariant.0 in
+    let t : StandsFor (record { sender = c.self.inside.sender; steering = c.self.inside.steering }) h = c.self.invariant.1 in
+    let m : List Entry = with_wanted h (wanted_of c.self.inside.steering) in
+    let x : live.StandsFor c.serve_if.new.sender m = c.in-Ok.ensures.sender h t.sender in
+    let y : SteersIf c.serve_if.new.steering m = c.in-Ok.ensures.steering h t.sender t.steering in
+    by-result _ c.pace_if.result
+    (λ r is. (
+      m ++ entry 0 (call.Pace c.args.at) r.reply ∷ [],
+      record { sender = at-ok _ c.pace_if.result r is c.pace_if.ensures.sender m 0 x; steering = at-ok _ c.pace_if.result r is c.pace_if.ensures.steering m 0 x y },
+    ))
+    (λ e is. (m, record { sender = subst (λ (l : Live). live.StandsFor l m) (sym (on-err _ c.pace_if.result e is c.pace_if.ensures.err)) x; steering = subst (λ (o : Option Steering). SteersIf o m) (sym (on-err _ c.pace_if.result e is c.pace_if.ensures.err_steering)) y }))
+
+pub returns-in-Ok-clause-stands : goal.returns-in-Ok-clause-stands
+returns-in-Ok-clause-stands c =
+    both-ok _ _ _ c.pace_if.result c.pace_if.ensures.sender c.pace_if.ensures.steering (λ r p q h caller s.
+    let t : StandsFor (record { sender = c.self.inside.sender; steering = c.self.inside.steering }) h = subst (λ (k : Kept). StandsFor k h) (sym c.self.view_is) s in
+    let m : List Entry = with_wanted h (wanted_of c.self.inside.steering) in
+    let same : m ≡ served c.args.self.now h = ap (λ (k : Kept). served k h) c.self.view_is in
+    let x : live.StandsFor c.serve_if.new.sender m = c.in-Ok.ensures.sender h t.sender in
+    let y : SteersIf c.serve_if.new.steering m = c.in-Ok.ensures.steering h t.sender t.steering in
+    subst (λ (n : List Entry). StandsFor (record { sender = c.pace_if.new.sender; steering = c.pace_if.new.steering }) (n ++ entry caller (call.Pace c.args.at) r.reply ∷ [])) same
+    (record { sender = p m caller x; steering = q m caller x y }))

@@ -1,0 +1,52 @@
+-- A steered sender stands for the history of its calls, in which the control's changes stand.
+use Rattle.std.specs.Prelude.{◌⊎◌, Option, Some, None, List, []}
+use Rattle.gcc_units.specs.Rates.{IsRate}
+use Rattle.live_sender.specs.Live.{Live}
+use Rattle.live_sender.specs.Live as live
+use Rattle.send_core.specs.declared.call.Entry.{Entry}
+use Rattle.steered_sender.specs.declared.steered.Control.{Control}
+use Rattle.steered_sender.specs.declared.steered.Control.TheVariants.{Gradient, Level}
+use Rattle.steered_sender.specs.declared.steering.Steering.{Steering}
+use Rattle.steered_sender.specs.declared.steering.Wanted.{Wanted}
+use Rattle.steered_sender.specs.Steered.{begun, with_wanted}
+use Rattle.steered_sender.specs.Steps.{Steers}
+
+-- the sender, and what steers it
+pub record Kept : Type 0 where
+  pub sender : Live
+  pub steering : Option Steering
+
+abbrev pub SteersIf : Option Steering → List Entry → Type 0
+SteersIf None history = Unit {0}
+SteersIf (Some s) history = Steers s history
+
+pub record StandsFor (now : Kept) (history : List Entry) : Type 0 where
+  pub sender : live.StandsFor now.sender history
+  pub steering : SteersIf now.steering history
+
+-- what the control asks for and was not served yet
+abbrev pub wanted_of : Option Steering → Option Wanted
+wanted_of None = None
+wanted_of (Some s) = s.wanted
+
+-- the history before the next call: what is wanted is served first
+abbrev pub served : Kept → List Entry → List Entry
+served now history = with_wanted history (wanted_of now.steering)
+
+-- the sender stands for this history, or for it with what the control asks for behind it
+abbrev pub IsBehind : Kept → List Entry → Type 0
+IsBehind now history = StandsFor now history ⊎ ((v : Kept) × StandsFor v history × StandsFor now (served v history))
+
+-- ---- how it begins
+
+abbrev pub IsControl : Control → Type 0
+IsControl Gradient = Unit {0}
+IsControl (Level start) = IsRate start
+
+-- what a control asks for first
+abbrev pub first_wanted : Control → Option Wanted
+first_wanted Gradient = None
+first_wanted (Level start) = (begun start).wanted
+
+abbrev pub first : Control → List Entry
+first control = with_wanted [] (first_wanted control)

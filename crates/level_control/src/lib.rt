@@ -6,7 +6,7 @@
 //! the same question: what a cut does not lower is not ours. Rates are bit/s, moments microseconds, delays
 //! quarter-milliseconds. A [`LevelControl`] keeps no list: its numbers take constant memory.
 //!
-//! No crate uses it yet.
+//! `steered_sender` puts it above a live sender.
 #![tactic(auto)]
 
 ghost use Rattle.std.specs.Prelude.{◌≡◌, ◌≤◌, ◌+◌, ℕ, All, IsSome, IsNone, max, true, false};

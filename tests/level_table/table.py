@@ -241,7 +241,7 @@ def link_reports(name):
             "delay": NONE if none else -70_000 + queue + held + v % jitter + 2 * n,
             "got": 0 if none else max(0, packets - lost),
             "lost": lost,
-            "acked": NONE if n < 2 or n % 31 == 30 else min(control.r, link) * (93 + v % 10) // 100,
+            "acked": NONE if n < 2 or n % 31 == 30 else min(10**10, min(control.r, link) * (93 + v % 10) // 100),
             "rtt": min(10_000_000, 30_000 + 250 * queue),
             "now": now,
         }

@@ -1,13 +1,19 @@
-//! `gcc_live`: calls of made or written traces on senders without a journal.
+//! `gcc_live`: calls of made or written traces on senders without a journal, and closed loops of them.
 //!
 //! `gcc_live --senders N --calls N --seed N` serves a made trace on each of so many senders, one
 //! after the other, and prints for each a line with its calls, the packets that left, their bytes and
 //! the target. `gcc_live --against` reads a trace from standard input and prints the history that the
 //! sender's replies spell, which is the text that `gcc_pace replay` prints for it.
+//! `gcc_live loop --rate R --queue Q --delay D --seconds S` runs one or two senders in a closed loop over
+//! a stated link, and prints what was measured: R in bit/s, Q and D in milliseconds. It also takes
+//! `--step AT:RATE`, as often as the rate changes, `--loss PERMILLE`, `--jitter MS`, `--seed N`,
+//! `--senders 1|2`, `--control gradient|level` and `--trace`.
 #![tactic(auto)]
 
 mod against;
 mod levels;
+mod loop_words;
+mod looping;
 mod made;
 mod serving;
 mod stop;
@@ -16,6 +22,7 @@ mod words;
 
 use crate::against::replay;
 use crate::levels::run_level;
+use crate::looping::run_loop;
 use crate::made::run_made;
 use crate::stop::Stop;
 use crate::words::{Job, job_of};
@@ -49,6 +56,7 @@ fn main(rt: HostRuntime) -> ExitCode {
                 },
             ),
         ) => run_made(alloc, senders, calls, seed),
+        Ok(Some(Job::Loop(asked))) => run_loop(alloc, &asked),
         Ok(Some(Job::Against)) => {
             let mut bytes = Vec::new(alloc);
             match rt.stdin().read_to_end(&mut bytes) {

@@ -1,0 +1,5 @@
+pub mod Plans
+pub mod Lines
+pub mod Ways
+pub mod Hearings
+pub mod Measures

@@ -16,6 +16,7 @@
 #include <time.h>
 #include <unistd.h>
 
+#define START_RATE 300000
 #define FRAME_US 33333
 #define SECOND_US 1000000
 #define PAYLOAD 1100
@@ -45,6 +46,15 @@ static struct sockaddr_in loopback(const char *port) {
   address.sin_addr.s_addr = htonl(INADDR_LOOPBACK);
   address.sin_port = htons((uint16_t)strtoul(port, NULL, 10));
   return address;
+}
+
+/* a sender that begins at the start rate, with two probes of more */
+static void begin(lulq_sender *sender) {
+  const lulq_settings settings = {.named = LULQ_SET_START, .start = START_RATE};
+  const lulq_stream none = {0, 1, 0, 0, 0};
+  const uint32_t removed = 0;
+  want(lulq_sender_new(sender), "new");
+  want(lulq_sender_configure(sender, 0, &settings, &none, 0, &removed, 0), "configure");
 }
 
 static int bound(struct sockaddr_in here) {
@@ -134,7 +144,8 @@ int main(int argc, char **argv) {
   const int fd = bound(loopback(argv[3]));
   const uint64_t start = now_us();
   uint64_t frame = 0, second = 1, at = 0;
-  if (lulq_abi() != LULQ_ABI || lulq_sender_new(&sender) != LULQ_OK) return fprintf(stderr, "no sender\n"), 1;
+  if (lulq_abi() != LULQ_ABI) return fprintf(stderr, "another library\n"), 1;
+  begin(&sender);
   while (second <= seconds) {
     lulq_rates rates;
     want(lulq_sender_rates(&sender, &rates), "rates");

@@ -2,7 +2,7 @@
  * this process: what other programs do meanwhile is not counted. Ends with 1 where a bound is not met.
  *
  *     calls one ROUNDS             nanoseconds for an enqueue, a pop and a report, by rounds of 20 packets
- *     calls long CALLS             memory and time of so many calls on one sender, by rounds of 50 packets
+ *     calls long CALLS             memory and time of a call behind so many on one sender, by rounds of 50 packets
  *     calls many SENDERS ROUNDS    memory and calls a second of many senders, which make their rounds in turn
  *
  * A call is an enqueue, a pop or a report; a round takes 50 ms of the senders' time.
@@ -183,30 +183,42 @@ static void one(uint64_t rounds) {
   tell("a packet with its enqueue, its pops and its part of a report", (double)(enqueues.ns + pops.ns + reports.ns) / (double)enqueues.count, MOST_PACKET_NS, "ns ");
 }
 
+/* nanoseconds a call, of a million calls on a sender */
+static double stretch(call *made) {
+  const uint64_t before = calls_made(), start = busy_ns();
+  while (calls_made() < before + MILLION) serve(made, MOST_PACKETS);
+  return (double)since(start) / (double)(calls_made() - before);
+}
+
 static double lesser(double a, double b) { return a < b ? a : b; }
 
-/* By stretches of a million calls: those behind the first against the last ones, ten each, and of each ten the
- * least, since other programs slow a stretch and none quickens it. */
+/* The time of a call on an old sender against that on one with a million calls: by ten stretches of each in turn,
+ * and of each ten the least, since other programs slow a stretch and none quickens it. */
+static void compare(call *old) {
+  call young;
+  double old_ns = 1e9, young_ns = 1e9;
+  begin(&young);
+  stretch(&young);
+  for (int k = 0; k < 10; k++) {
+    old_ns = lesser(old_ns, stretch(old));
+    young_ns = lesser(young_ns, stretch(&young));
+  }
+  end(&young, MOST_PACKETS);
+  printf("%.0f ns a call, %.0f ns after 1,000,000 calls\n", old_ns, young_ns);
+  tell("time of a call then against after 1,000,000 calls", old_ns / young_ns, MOST_TIME_RATIO, "");
+}
+
 static void endless(uint64_t calls) {
   call made;
-  double early = 1e9, late[10], memory = 0, last = 1e9;
-  uint64_t stretch = 0;
-  want(calls >= 20 * (uint64_t)MILLION, "at least 20,000,000 calls");
   begin(&made);
-  while (calls_made() < calls) {
-    const uint64_t before = calls_made(), start = busy_ns();
-    while (calls_made() < before + MILLION) serve(&made, MOST_PACKETS);
-    const double ns = (double)since(start) / (double)(calls_made() - before);
-    if (stretch == 0) memory = resident();
-    if (stretch >= 1 && stretch <= 10) early = lesser(early, ns);
-    late[stretch++ % 10] = ns;
-  }
+  stretch(&made);
+  const double memory = resident();
+  while (calls_made() < calls) stretch(&made);
   const double grown = resident() - memory;
-  for (int k = 0; k < 10; k++) last = lesser(last, late[k]);
-  printf("%" PRIu64 " calls on one sender, %" PRIu64 " packets, %" PRIu64 " reports: %.0f ns a call at first, %.0f ns at the end\n", calls_made(), enqueues.count, reports.count, early, last);
+  printf("%" PRIu64 " calls on one sender: %" PRIu64 " packets, %" PRIu64 " reports\n", calls_made(), enqueues.count, reports.count);
+  tell("bytes then beyond those after 1,000,000 calls", grown, MOST_GROWTH, "");
+  compare(&made);
   end(&made, MOST_PACKETS);
-  tell("bytes at the end beyond those after 1,000,000 calls", grown, MOST_GROWTH, "");
-  tell("time of a call at the end against at first", last / early, MOST_TIME_RATIO, "");
 }
 
 static void many(uint64_t senders, uint64_t rounds) {

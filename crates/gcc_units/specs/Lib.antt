@@ -1,4 +1,5 @@
 pub mod Listed
+pub mod Numbers
 pub mod Priority
 pub mod Rates
 pub mod Unwrapping

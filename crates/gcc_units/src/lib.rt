@@ -6,6 +6,7 @@
 
 mod class;
 mod limits;
+mod numbers;
 mod sequence;
 mod shared_types;
 mod unwrapping;
@@ -17,6 +18,7 @@ pub use limits::{
     MOST_CHECK_BYTES, MOST_CLUSTERS, MOST_ENTRIES, MOST_LINES, MOST_PACKETS, MOST_REPORTS,
     MOST_SENDS, MOST_STATUSES, MOST_STREAMS, MOST_TRACE_BYTES, MOST_WAITING, PADDING_PACKET,
 };
+pub use numbers::{number16, number32};
 pub use sequence::{Bytes, Duplicate, IdList, NoMemory, Sequence};
 pub use shared_types::{
     Bounds, Credit, CreditList, Judged, Level, Moment, Rate, Sample, Share, ShareList, Signal,

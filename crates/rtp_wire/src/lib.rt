@@ -18,7 +18,7 @@ pub use laws::{
     stamps_change_two_bytes,
 };
 pub use packet::{Wire, WireFault, read_wire};
-pub use wires::WireList;
+pub use wires::{WireList, put};
 
 #[cfg(test)]
 mod tests;

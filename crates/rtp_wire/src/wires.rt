@@ -173,7 +173,7 @@ fn start_of(ends: &[usize], k: usize) -> usize
 }
 
 /// Puts items at the end, for which there is room.
-fn put<T: Copy>(list: &mut Vec<T>, more: &[T])
+pub fn put<T: Copy>(list: &mut Vec<T>, more: &[T])
     requires { vec_len list.old + length more.now ≤ vec_capacity list.old }
     ensures items { list.new.items ≡ list.old.items ++ more.now }
     ensures capacity { vec_capacity list.old ≤ vec_capacity list.new }

@@ -5,7 +5,8 @@ use Rattle.std.proofs.lemmas.Int.{ints}
 use Rattle.std.proofs.lemmas.Bool.{cases_lt, lt-ltb, le-ltb}
 use Rattle.twcc_report.specs.declared.report.Status.{Status}
 use Rattle.std.specs.List.{AllByRecursion}
-use Rattle.twcc_report.specs.Spelling.{Feedback, Fits, StatusFits, number16, number32, twos_complement24, low24, header}
+use Rattle.gcc_units.specs.Numbers.{number16, number32}
+use Rattle.twcc_report.specs.Spelling.{Feedback, Fits, StatusFits, twos_complement24, low24, header}
 use Rattle.twcc_report.proofs.Chunking.{IsBytes}
 
 -- the report that the header and the statuses make

@@ -8,7 +8,8 @@ use Rattle.twcc_report.specs.declared.fault.ReportFault.TheVariants.{Short, Leng
 use Rattle.twcc_report.specs.declared.report.Status.{Status}
 use Rattle.twcc_report.specs.declared.report.Status.TheVariants.{NotReceived, Small, Large}
 use Rattle.twcc_report.specs.Chunks.{symbols_of, chunk_bytes, AreChunks, BeginsWith, all_symbols, behind_chunks, words}
-use Rattle.twcc_report.specs.Spelling.{Feedback, Fits, Spells, EndsWell, number16, symbol, delta, header}
+use Rattle.gcc_units.specs.Numbers.{number16}
+use Rattle.twcc_report.specs.Spelling.{Feedback, Fits, Spells, EndsWell, symbol, delta, header}
 use Rattle.twcc_report.specs.Reading.{header_at, symbols_in, unreserved, statuses_at, ends_well, end_at, read_of}
 use Rattle.twcc_report.specs.Checks.{order, status_count, counted, delta_len, HasChunks, Passes, FailsFirst, IsByChecks}
 use Rattle.twcc_report.proofs.Chunking.{IsBytes, IsBytes-rest, all_take, chunks_small, symbols_again, behind_again, chunks_take}

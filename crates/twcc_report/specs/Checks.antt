@@ -6,7 +6,8 @@ use Rattle.twcc_report.specs.declared.fault.ReportFault.TheVariants.{Short, Leng
 use Rattle.twcc_report.specs.declared.fault.ReadReport.{ReadReport}
 use Rattle.twcc_report.specs.declared.fault.ReadReport.TheVariants as errors
 use Rattle.twcc_report.specs.Chunks.{symbols_of, BeginsWith}
-use Rattle.twcc_report.specs.Spelling.{Feedback, Fits, Spells, number16, EndsWell}
+use Rattle.gcc_units.specs.Numbers.{number16}
+use Rattle.twcc_report.specs.Spelling.{Feedback, Fits, Spells, EndsWell}
 use Rattle.twcc_report.specs.Reading.{read_of}
 
 -- which check comes when

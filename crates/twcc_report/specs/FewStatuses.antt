@@ -8,7 +8,8 @@ use Rattle.twcc_report.specs.declared.report.Status.{Status}
 use Rattle.twcc_report.specs.declared.fault.ReportFault.{ReportFault}
 use Rattle.twcc_report.specs.declared.fault.ReportFault.TheVariants as faults
 use Rattle.twcc_report.specs.Chunks.{all_symbols, behind_chunks}
-use Rattle.twcc_report.specs.Spelling.{Feedback, number16}
+use Rattle.gcc_units.specs.Numbers.{number16}
+use Rattle.twcc_report.specs.Spelling.{Feedback}
 use Rattle.twcc_report.specs.Reading.{◌>>=◌, header_at, symbols_in, unreserved, status_at, statuses_at, end_at, read_of}
 
 -- what a step gave, where all steps give something

@@ -9,7 +9,8 @@ use Rattle.twcc_report.specs.declared.fault.ReportFault.TheVariants as faults
 use Rattle.twcc_report.specs.declared.fault.ReadReport.{ReadReport}
 use Rattle.twcc_report.specs.declared.fault.ReadReport.TheVariants as errors
 use Rattle.twcc_report.specs.Chunks.{all_symbols, behind_chunks}
-use Rattle.twcc_report.specs.Spelling.{Feedback, number16, number32, twos_complement24}
+use Rattle.gcc_units.specs.Numbers.{number16, number32}
+use Rattle.twcc_report.specs.Spelling.{Feedback, twos_complement24}
 
 infixl 10 ◌>>=◌
 abbrev pub ◌>>=◌ : {A B : Type 0} → Result A ReportFault → (A → Result B ReportFault) → Result B ReportFault

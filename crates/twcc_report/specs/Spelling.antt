@@ -48,13 +48,6 @@ pub record Fits (f : Feedback) : Type 0 where
   pub few : length f.statuses < 65536
   pub statuses : AllByRecursion StatusFits f.statuses
 
--- the fields of 16 and of 32 bits at a place
-abbrev pub number16 : List ℕ → ℕ → ℕ
-number16 bytes i = slice_index bytes i * 256 + slice_index bytes (i + 1)
-
-abbrev pub number32 : List ℕ → ℕ → ℕ
-number32 bytes i = number16 bytes i * 65536 + number16 bytes (i + 2)
-
 -- a number of 24 bits in two's complement
 abbrev pub twos_complement24 : ℕ → ℤ
 twos_complement24 n = if nat_lt n 8388608 then pos n else pos n -ℤ pos 16777216

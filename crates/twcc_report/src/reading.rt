@@ -38,34 +38,19 @@
 ghost use Rattle.std.specs.Prelude.{◌≡◌, ℕ, ◌+◌, ◌-◌, ◌*◌, ◌^◌, ◌<◌, ◌≤◌, ◌++◌, List, length, take, vec_len, vec_capacity, Ok, Err, IfOk, IfErr, OnOk};
 ghost use Rattle.twcc_report.specs.Chunks.{symbol_count, symbol_at, symbols_of};
 ghost use Rattle.gcc_units.specs.Listed.{bare};
+ghost use Rattle.gcc_units.specs.Numbers.{number16, number32};
 ghost use Rattle.twcc_report.specs.declared.fault.ReportFault.{ReportFault};
-ghost use Rattle.twcc_report.specs.Spelling.{Feedback, Fits, Spells, view, number16, number32, twos_complement24};
+ghost use Rattle.twcc_report.specs.Spelling.{Feedback, Fits, Spells, view, twos_complement24};
 ghost use Rattle.twcc_report.specs.Checks.{FailsFirst, IsCause};
 ghost use Rattle.twcc_report.specs.Reading.{Gives, header_at, symbols_in, unreserved, status_at, statuses_at, end_at, read_of};
 
 use crate::fault::{ReadReport, ReportFault};
 use crate::report::{Report, Status};
-use gcc_units::Sequence;
+use gcc_units::{Sequence, number16, number32};
 use std::alloc::Global;
 
 /// The bytes of a report's header.
 const HEADER: usize = 20;
-
-/// The field of 16 bits at a place.
-fn number16(bytes: &[u8], at: usize) -> u16
-    requires { at + 2 ≤ length bytes.now }
-    ensures { result ≡ number16 bytes.now at }
-{
-    u16::from_be_bytes([bytes[at], bytes[at + 1]])
-}
-
-/// The field of 32 bits at a place.
-fn number32(bytes: &[u8], at: usize) -> u32
-    requires { at + 4 ≤ length bytes.now }
-    ensures { result ≡ number32 bytes.now at }
-{
-    number16(bytes, at) as u32 * 65536 + number16(bytes, at + 2) as u32
-}
 
 /// The reference time, a number of 24 bits in two's complement.
 fn reference_of(bits: u32) -> i32

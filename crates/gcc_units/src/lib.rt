@@ -19,7 +19,7 @@ pub use limits::{
     MOST_SENDS, MOST_STATUSES, MOST_STREAMS, MOST_TRACE_BYTES, MOST_WAITING, PADDING_PACKET,
 };
 pub use numbers::{number16, number32};
-pub use sequence::{Bytes, Duplicate, IdList, NoMemory, Sequence};
+pub use sequence::{Bytes, Duplicate, IdList, NoMemory, Sequence, promise};
 pub use shared_types::{
     Bounds, Credit, CreditList, Judged, Level, Moment, Rate, Sample, Share, ShareList, Signal,
 };

@@ -1,6 +1,6 @@
 //! Lists that contracts see as their items and a promise of room.
 
-ghost use Rattle.std.specs.Prelude.{◌≡◌, ℕ, ◌+◌, ◌-◌, ◌^◌, ◌<◌, ◌≤◌, ◌==◌, [], ◌∷◌, ◌++◌, length, IfSome, IfNone, IfOk, IfErr, IsOk, OnOk, OnErr, slice_get, vec_len};
+ghost use Rattle.std.specs.Prelude.{◌≡◌, ℕ, ◌+◌, ◌-◌, ◌^◌, ◌<◌, ◌≤◌, ◌==◌, [], ◌∷◌, ◌++◌, length, IfSome, IfNone, IfOk, IfErr, IsOk, OnOk, OnErr, slice_get, vec_len, vec_capacity};
 ghost use Rattle.std.specs.Option.{option_copied};
 ghost use Rattle.gcc_units.specs.Listed.{Listed, bare};
 
@@ -50,6 +50,28 @@ pub type Bytes = Sequence<u8>;
 /// Ids.
 pub type IdList = Sequence<u32>;
 
+/// Sees to room for `n` items behind those of a list that promises `room` already, and answers how many it
+/// promises then. At `NoMemory` the items are as before.
+pub fn promise<T>(held: &mut Vec<T>, room: u32, n: u32) -> Result<u32, NoMemory>
+    requires room { vec_len held.old + room ≤ vec_capacity held.old }
+    requires few { vec_len held.old + room < 2 ^ 32 }
+    ensures items { held.new.items ≡ held.old.items }
+    ensures capacity { vec_capacity held.old ≤ vec_capacity held.new }
+    ensures asked { IfOk result (λ promised. n ≤ promised) }
+    ensures grows { IfOk result (λ promised. room ≤ promised) }
+    ensures room { IfOk result (λ promised. vec_len held.new + promised ≤ vec_capacity held.new) }
+    ensures few { IfOk result (λ promised. vec_len held.new + promised < 2 ^ 32) }
+{
+    if n <= room {
+        return Ok(room);
+    }
+    if n > u32::MAX - held.len() as u32 {
+        return Err(NoMemory);
+    }
+    held.reserve(n as usize)?;
+    Ok(n)
+}
+
 impl<T> Sequence<T> {
     /// The empty list, with no room. It takes no memory.
     pub fn new(alloc: Global) -> Self
@@ -97,14 +119,7 @@ impl<T> Sequence<T> {
         ensures grows { self.old.spare ≤ self.new.spare }
         ensures err { OnErr result (self.new ≡ self.old) }
     {
-        if n <= self.room {
-            return Ok(());
-        }
-        if n > u32::MAX - self.len() {
-            return Err(NoMemory);
-        }
-        self.held.reserve(n as usize)?;
-        self.room = n;
+        self.room = promise(&mut self.held, self.room, n)?;
         Ok(())
     }
 

@@ -1,7 +1,8 @@
 -- The twelve bytes of the header.
 use Rattle.std.proofs.Common.{◌≡◌, ℕ, zero, suc, ◌+◌, ◌-◌, ◌*◌, ◌/◌, ◌%◌, ◌^◌, ◌<◌, ◌≤◌, List, [], ◌∷◌, ◌++◌, length, drop, get_or, refl, sym, ap, subst, ◌∙◌, arith, w16, w32}
 use Rattle.std.specs.Int.{to_be_bytes}
-use Rattle.nack_rtx.specs.Spelling.{number16, number32, header}
+use Rattle.gcc_units.specs.Numbers.{number16, number32}
+use Rattle.nack_rtx.specs.Spelling.{header}
 use Rattle.nack_rtx.proofs.Pairs.{IsBytes}
 
 -- a cell of a list

@@ -4,7 +4,7 @@ use Rattle.std.specs.List.{flat_map, range_with_len}
 use Rattle.gcc_units.specs.Walk.{flat_map-push}
 use Rattle.nack_rtx.specs.Naming.{names, named_in}
 use Rattle.nack_rtx.specs.Running.{with_number, adding}
-use Rattle.nack_rtx.specs.Spelling.{number16}
+use Rattle.gcc_units.specs.Numbers.{number16}
 use Rattle.nack_rtx.proofs.Numbers.{adding-append}
 
 abbrev pub at_bit : ℕ → ℕ → ℕ → List ℕ

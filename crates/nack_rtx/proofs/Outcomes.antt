@@ -7,7 +7,8 @@ use Rattle.std.proofs.lemmas.Bool.{eqb-true, cases_eq, cases_lt, cases_Bool, ne_
 use Rattle.nack_rtx.specs.declared.fault.NackFault.{NackFault}
 use Rattle.nack_rtx.specs.declared.fault.NackFault.TheVariants.{Short, Length, Version, NotNack, Padding}
 use Rattle.nack_rtx.specs.Naming.{pairs_in, named_by, first_of}
-use Rattle.nack_rtx.specs.Spelling.{Asked, Spells, IsPadding, number16, number32, header, pair_bytes}
+use Rattle.gcc_units.specs.Numbers.{number16, number32}
+use Rattle.nack_rtx.specs.Spelling.{Asked, Spells, IsPadding, header, pair_bytes}
 use Rattle.nack_rtx.specs.Reading.{padding_at, nack_of, last_byte, is_count, pair_bytes_in}
 use Rattle.nack_rtx.specs.Checks.{order, CountsPadding, Passes, FailsFirst, IsByChecks}
 use Rattle.nack_rtx.proofs.Pairs.{IsBytes, pairs_again, pairs_len, bytes_again, pairs_fit, pairs_some}

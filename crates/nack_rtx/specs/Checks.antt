@@ -4,7 +4,8 @@ use Rattle.nack_rtx.specs.declared.fault.NackFault.{NackFault}
 use Rattle.nack_rtx.specs.declared.fault.NackFault.TheVariants.{Short, Length, Version, NotNack, Padding}
 use Rattle.nack_rtx.specs.declared.fault.ReadNack.{ReadNack}
 use Rattle.nack_rtx.specs.declared.fault.ReadNack.TheVariants as errors
-use Rattle.nack_rtx.specs.Spelling.{Asked, Spells, number16}
+use Rattle.gcc_units.specs.Numbers.{number16}
+use Rattle.nack_rtx.specs.Spelling.{Asked, Spells}
 use Rattle.nack_rtx.specs.Reading.{last_byte, nack_of}
 
 -- which check comes when

@@ -5,7 +5,8 @@ use Rattle.nack_rtx.specs.declared.fault.NackFault.TheVariants as faults
 use Rattle.nack_rtx.specs.declared.fault.ReadNack.{ReadNack}
 use Rattle.nack_rtx.specs.declared.fault.ReadNack.TheVariants as errors
 use Rattle.nack_rtx.specs.Naming.{named_in, first_of}
-use Rattle.nack_rtx.specs.Spelling.{Asked, number16, number32}
+use Rattle.gcc_units.specs.Numbers.{number16, number32}
+use Rattle.nack_rtx.specs.Spelling.{Asked}
 
 infixl 10 ◌>>=◌
 abbrev pub ◌>>=◌ : {A B : Type 0} → Result A NackFault → (A → Result B NackFault) → Result B NackFault

@@ -14,13 +14,6 @@ pub record Asked : Type 0 where
 abbrev pub view : Nack → Asked
 view n = record { sender = n.sender; media = n.media; lost = n.lost.items }
 
--- the fields of 16 and of 32 bits at a place
-abbrev pub number16 : List ℕ → ℕ → ℕ
-number16 bytes i = slice_index bytes i * 256 + slice_index bytes (i + 1)
-
-abbrev pub number32 : List ℕ → ℕ → ℕ
-number32 bytes i = number16 bytes i * 65536 + number16 bytes (i + 2)
-
 -- The 12 bytes before the pairs, the first of them with version 2 and format 1. The padding bit and the length in words less one
 -- are no part of the NACK.
 abbrev pub header : ℕ → ℕ → ℕ → ℕ → List ℕ

@@ -5,31 +5,16 @@ ghost use Rattle.gcc_units.specs.Listed.{bare};
 ghost use Rattle.nack_rtx.specs.declared.fault.NackFault.{NackFault};
 ghost use Rattle.nack_rtx.specs.Naming.{names, named_in};
 ghost use Rattle.nack_rtx.specs.Running.{adding};
-ghost use Rattle.nack_rtx.specs.Spelling.{Asked, Spells, view, number16, number32};
+ghost use Rattle.nack_rtx.specs.Spelling.{Asked, Spells, view};
+ghost use Rattle.gcc_units.specs.Numbers.{number16, number32};
 ghost use Rattle.nack_rtx.specs.Checks.{FailsFirst, IsCause};
 ghost use Rattle.nack_rtx.specs.Reading.{Gives, padding_at, nack_of};
 
 use crate::fault::{NackFault, ReadNack};
 use crate::nack::{Nack, SeqList};
 use crate::named::Named;
-use gcc_units::NoMemory;
+use gcc_units::{NoMemory, number16, number32};
 use std::alloc::Global;
-
-/// The field of 16 bits at a place.
-fn number16(bytes: &[u8], at: usize) -> u16
-    requires { at + 2 ≤ length bytes.now }
-    ensures { result ≡ number16 bytes.now at }
-{
-    u16::from_be_bytes([bytes[at], bytes[at + 1]])
-}
-
-/// The field of 32 bits at a place.
-fn number32(bytes: &[u8], at: usize) -> u32
-    requires { at + 4 ≤ length bytes.now }
-    ensures { result ≡ number32 bytes.now at }
-{
-    number16(bytes, at) as u32 * 65536 + number16(bytes, at + 2) as u32
-}
 
 /// Checks the header and the padding, and gives how many bytes of padding there are.
 #[tactic(auto, unfolding(crate::specs::Reading::padding_at))]

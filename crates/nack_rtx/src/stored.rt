@@ -6,7 +6,7 @@ ghost use Rattle.nack_rtx.specs.Packets.{resent_packet};
 
 use crate::MOST_KEPT_BYTES;
 use gcc_units::{Bytes, NoMemory, Sequence};
-use rtp_wire::Wire;
+use rtp_wire::{Wire, put};
 use std::alloc::Global;
 use std::marker::Model;
 
@@ -62,17 +62,5 @@ impl Stored {
         put(&mut packet, &bytes[2..4]);
         put(&mut packet, &bytes[header..]);
         Ok(Sequence::from_vec(packet))
-    }
-}
-
-/// Puts items at the end, for which there is room.
-fn put<T: Copy>(list: &mut Vec<T>, more: &[T])
-    requires { vec_len list.old + length more.now ≤ vec_capacity list.old }
-    ensures items { list.new.items ≡ list.old.items ++ more.now }
-    ensures capacity { vec_capacity list.old ≤ vec_capacity list.new }
-{
-    match list.extend_from_slice(more) {
-        Ok(()) => {}
-        Err(_) => unreachable!(),
     }
 }

@@ -1,7 +1,8 @@
 use Rattle.std.proofs.Common.{◌≡◌, List, ℕ, Ok, ap, sym, ◌∙◌}
 use Rattle.gcc_units.specs.Listed.{Listed}
 use Rattle.nack_rtx.specs.Naming.{named_in, first_of}
-use Rattle.nack_rtx.specs.Spelling.{Asked, number32}
+use Rattle.gcc_units.specs.Numbers.{number32}
+use Rattle.nack_rtx.specs.Spelling.{Asked}
 use Rattle.nack_rtx.specs.Reading.{nack_of, pair_bytes_in}
 use Rattle.nack_rtx.proofs.Numbers.{from_nothing}
 use Rattle.nack_rtx.proofs.reading.read.Goals as goal

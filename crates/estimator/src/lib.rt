@@ -34,7 +34,8 @@ mod report;
 
 pub use estimate::{Estimate, START_ROUND_TRIP};
 use hearing::hear;
-use report::{add_all, note_all, round_trip, step_if_heard, take_results};
+pub use report::{later_of, round_trip};
+use report::{add_all, note_all, step_if_heard, take_results};
 
 /// Both estimates, and what their rules keep of the reports so far.
 #[derive(Drop)]

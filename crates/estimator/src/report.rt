@@ -20,7 +20,7 @@ use probe_clusters::Clusters;
 use rate_control::{Control, GREATEST_ROUND_TRIP};
 
 /// Of two credits, the one with the greater number.
-fn later_of(a: Credit, b: Credit) -> Credit
+pub fn later_of(a: Credit, b: Credit) -> Credit
     ensures { result ≡ later_of a b }
 {
     if a.number < b.number { b } else { a }

@@ -9,6 +9,7 @@ ghost use Rattle.probe_clusters.specs.Deeds.{Deed, clusters, Plan, Note, StandsF
 use crate::cluster::Cluster;
 use gcc_units::{
     Credit, GREATEST_MOMENT, GREATEST_PACKET, MOST_CLUSTERS, MOST_PACKETS, Moment, NoMemory, Rate,
+    promise,
 };
 use std::alloc::Global;
 use std::marker::Model;
@@ -113,14 +114,7 @@ impl Clusters {
         ensures grows { self.old.spare ≤ self.new.spare }
         ensures err { OnErr result (self.new ≡ self.old) }
     {
-        if n <= self.room {
-            return Ok(());
-        }
-        if n > u32::MAX - self.held.len() as u32 {
-            return Err(NoMemory);
-        }
-        self.held.reserve(n as usize)?;
-        self.room = n;
+        self.room = promise(&mut self.held, self.room, n)?;
         Ok(())
     }
 

@@ -3,7 +3,7 @@ use Rattle.std.proofs.Common.{◌≡◌, ℕ, ◌+◌, ◌*◌, ◌<◌, List, [
 use Rattle.std.proofs.lemmas.List.{get_or_append_left}
 use Rattle.std.proofs.lemmas.List.Elements.{All-head, All-tail}
 use Rattle.std.proofs.Math.Seq.{drop-append_seam, take-append_seam}
-use Rattle.twcc_report.specs.Spelling.{number16}
+use Rattle.gcc_units.specs.Numbers.{number16}
 use Rattle.rtcp_compound.specs.Compound.{IsPacket, joined, ArePackets, BeginsWithNone, FailsAt}
 
 -- how long a packet at the front is, by the bytes alone

@@ -2,7 +2,7 @@
 -- RFC 3550, section 6.1 has compound packets, RFC 5506 those of reduced size, which are cut in the same way.
 use Rattle.std.specs.Prelude.{◌≡◌, ℕ, ◌+◌, ◌*◌, ◌/◌, ◌%◌, ◌<◌, ◌≤◌, ◌==◌, ◌&&◌, Bool, List, ◌++◌, length, take, drop, slice_index, All}
 use Rattle.std.specs.List.{flat_map}
-use Rattle.twcc_report.specs.Spelling.{number16}
+use Rattle.gcc_units.specs.Numbers.{number16}
 use Rattle.rtcp_compound.specs.declared.cutting.Part.{Part}
 use Rattle.rtcp_compound.specs.declared.cutting.ReadCompound.{ReadCompound}
 use Rattle.rtcp_compound.specs.declared.cutting.ReadCompound.TheVariants.{NoPacket, NoMemory}

@@ -15,7 +15,7 @@ use std::alloc::Global;
 use twcc_report::Status;
 
 /// Whether the status says that its packet was received.
-fn is_received(status: Status) -> bool
+pub fn is_received(status: Status) -> bool
     ensures { result ≡ is_received status }
 {
     match status {

@@ -17,6 +17,7 @@ mod ring;
 mod slot;
 
 pub use history::History;
+pub use judging::is_received;
 pub use laws::{
     credits_are_exact, no_number_is_credited_twice, packets_balance, statuses_are_judged_once,
 };

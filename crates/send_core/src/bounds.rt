@@ -7,18 +7,8 @@ ghost use Rattle.send_core.specs.Bounds.{is_quiet, most_paced, most_sends};
 use crate::call::Call;
 use crate::parts::Parts;
 use gcc_units::MOST_SENDS;
-use twcc_report::{Status, StatusList};
-
-// Whether the status says that its packet was received.
-fn is_received(status: Status) -> bool
-    ensures { result ≡ is_received status }
-{
-    match status {
-        Status::NotReceived => false,
-        Status::Small(_) => true,
-        Status::Large(_) => true,
-    }
-}
+use sent_history::is_received;
+use twcc_report::StatusList;
 
 /// How many packets the statuses name received.
 pub fn count_received(statuses: &StatusList) -> u32

@@ -34,7 +34,7 @@ pub use laws::{
     made_traces_have_all_calls, no_bytes_spell_two_traces,
 };
 pub use made_packets::{AUDIO_BYTES, MOST_VIDEO_BYTES, frame, made_packet};
-pub use making::{is_frame_due, make_trace, opening};
+pub use making::{is_audio, is_frame_due, is_video, make_trace, opening};
 pub use reading::{next_line, read_front, read_trace};
 pub use trace::{Action, Line, LineList, Trace};
 pub use writing::write_trace;

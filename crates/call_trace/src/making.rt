@@ -84,6 +84,36 @@ pub fn opening(alloc: Global) -> Result<Change, NoMemory>
     })
 }
 
+/// Whether the call is that of an audio packet.
+pub fn is_audio(call: &Call) -> bool
+    ensures { result ≡ is_audio call.now }
+{
+    match call {
+        Call::Enqueue { class, .. } => *class == Class::Audio,
+        _ => false,
+    }
+}
+
+/// Whether the call is that of a video packet.
+pub fn is_video(call: &Call) -> bool
+    ensures { result ≡ is_video call.now }
+{
+    match call {
+        Call::Enqueue { class, .. } => *class == Class::Video,
+        _ => false,
+    }
+}
+
+/// Whether the call is that of a report.
+fn is_report(call: &Call) -> bool
+    ensures { result ≡ is_report call.now }
+{
+    match call {
+        Call::Report { .. } => true,
+        _ => false,
+    }
+}
+
 /// Puts the moment of each packet that left at the end.
 fn note_sends(moments: &mut Vec<Moment>, reply: &Reply) -> Result<(), NoMemory>
     ensures { OnOk result (moments.new.items ≡ moments.old.items ++ moments_by reply.now) }
@@ -130,14 +160,14 @@ impl Maker {
           reports = self.old.reports + (if is_report call.now then 1 else 0);
         } }
     {
-        match call {
-            Call::Enqueue { class, .. } => match class {
-                Class::Audio => self.audio += 1,
-                Class::Video => self.video += 1,
-                Class::Retransmission | Class::Fec => {}
-            },
-            Call::Report { .. } => self.reports += 1,
-            Call::Pace { .. } | Call::Configure { .. } => {}
+        if is_audio(call) {
+            self.audio += 1;
+        }
+        if is_video(call) {
+            self.video += 1;
+        }
+        if is_report(call) {
+            self.reports += 1;
         }
     }
 

@@ -162,13 +162,8 @@ fn own_glances<'a>(
         match act_in(actor, line) {
             Act::Ask => standing.asked += 1,
             Act::Look => {
-                let Some((first, others)) = rest.split_first() else {
-                    return None;
-                };
-                let Some(next) = glanced(actor, served, standing, first) else {
-                    return None;
-                };
-                standing = next;
+                let (first, others) = rest.split_first()?;
+                standing = glanced(actor, served, standing, first)?;
                 rest = others;
             }
             Act::None => {}

@@ -7,3 +7,4 @@ pub mod Lowering
 pub mod Growing
 pub mod Falls
 pub mod Windows
+pub mod Counts

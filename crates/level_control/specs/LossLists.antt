@@ -5,7 +5,7 @@ use Rattle.level_control.specs.declared.state.Losses.{Losses}
 use Rattle.level_control.specs.declared.state.State.{State}
 use Rattle.level_control.specs.declared.losses.TheConstants.{LOSS_PERIOD, FEWEST_PACKETS}
 use Rattle.level_control.specs.Losses.{after_losses}
-use Rattle.level_control.specs.Given.{Given, reported, setting, given_to}
+use Rattle.level_control.specs.Given.{Given, reported, setting, given_to, after_all}
 use Rattle.level_control.specs.Rule.{started}
 
 -- a report, and whether its losses led to a cut
@@ -72,3 +72,7 @@ pub record AreCounts (first : Told) (more : List Told) (l : Losses) : Type 0 whe
   pub since : l.since ≡ Some (since_after first.report.now windows)
   pub received : l.received ≡ received_in (since_after first.report.now windows) current
   pub missing : l.missing ≡ missing_in (since_after first.report.now windows) current
+
+-- After a list that holds a report, the window and its counts are those of the list.
+abbrev pub LossesAreThoseOfTheList : Type 0
+LossesAreThoseOfTheList = (start : ℕ) (given : List Given) (first : Told) (more : List Told) → told start given ≡ first ∷ more → AreCounts first more (after_all start given).losses

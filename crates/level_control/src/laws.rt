@@ -3,6 +3,7 @@
 
 ghost use Rattle.level_control.specs.Promises.{AllCutsOfTheListLieApart, DrainsOfTheListEndLow, OwnDrainsEndLower, AllReportsGrowSlowly};
 ghost use Rattle.level_control.specs.DrainLists.{DrainsAreThoseOfTheList};
+ghost use Rattle.level_control.specs.LossLists.{LossesAreThoseOfTheList};
 ghost use Rattle.level_control.specs.Moving.{MovingChangesNoAnswer};
 ghost use Rattle.level_control.specs.AsLists.{BasesAreThoseOfTheList, ChangesAreThoseOfTheList, FloorsAreThoseOfTheList};
 ghost use Rattle.level_control.specs.Laws.{LevelsLieInRange, CutsAreShown, SecondCutsAreShown, AllCutsLieApart, AllGrowSlowly, TriedSharesAreShown, DrainsEndLow};
@@ -60,4 +61,10 @@ pub fn moving_changes_no_answer()
 /// and its falls.
 pub fn drains_are_those_of_the_list()
     ensures { DrainsAreThoseOfTheList }
+{}
+
+/// Loss windows are those of the list: each the shortest that begins where the last one let it, lasts a period and
+/// counts enough packets. What is counted is what came since the open one began.
+pub fn loss_windows_are_those_of_the_list()
+    ensures { LossesAreThoseOfTheList }
 {}

@@ -109,7 +109,7 @@ push-late cut more old x y b is now last test fall = by b fall
       fell = is.fell ∙ sym (ap (last_moment (cut.now + cut.rtt)) (all_falls false e ∙ append-nil (falls_of cut more)));
     }
 
-drain-push : (cut : Seen) (more : List Seen) (old : Drain) (x : Seen) (y : Shown) → IsDrainOf cut more old → y.now ≡ x.now → y.delays.last ≡ x.delay → y.above ≡ x.height
+pub drain-push : (cut : Seen) (more : List Seen) (old : Drain) (x : Seen) (y : Shown) → IsDrainOf cut more old → y.now ≡ x.now → y.delays.last ≡ x.delay → y.above ≡ x.height
     → (nat_lt x.now (cut.now + cut.rtt) ≡ true → late (cut.now + cut.rtt) more ≡ []) → IsDrainOf cut (more ++ x ∷ []) (followed old y)
 drain-push cut more old x y is now last height none = by (nat_lt x.now (cut.now + cut.rtt)) refl
   where
@@ -129,11 +129,11 @@ drain-push cut more old x y is now last height none = by (nat_lt x.now (cut.now 
 
 -- ---- the list
 
-record KeepsDrain (all : List Seen) (d : Drain) : Type 0 where
-  drains : Drains all d
-  early_first : (z : Seen) → AreInOrder (all ++ z ∷ []) → nat_lt z.now (drains.cut.now + drains.cut.rtt) ≡ true → late (drains.cut.now + drains.cut.rtt) drains.more ≡ []
+pub record KeepsDrain (all : List Seen) (d : Drain) : Type 0 where
+  pub drains : Drains all d
+  pub early_first : (z : Seen) → AreInOrder (all ++ z ∷ []) → nat_lt z.now (drains.cut.now + drains.cut.rtt) ≡ true → late (drains.cut.now + drains.cut.rtt) drains.more ≡ []
 
-abbrev HasDrains : Option Delays → Option Drain → List Seen → Type 0
+abbrev pub HasDrains : Option Delays → Option Drain → List Seen → Type 0
 HasDrains known drain all = AreInOrder all → (d : Drain) → drain ≡ Some d → KeepsDrain all d
 
 order-before : (all : List Seen) (x : Seen) → AreInOrder (all ++ x ∷ []) → AreInOrder all
@@ -196,7 +196,7 @@ drains-turn known next drain after_it all x y has sees turn ended order e is =
       | ends old rate no_fall was is_cut n d ↦ absurd (no_some e (sym d ∙ is))
     ]
 
-drains-lasts : Lasts HasDrains
+pub drains-lasts : Lasts HasDrains
 drains-lasts = record { first = λ order d is. absurd (no_some d is); turn = drains-turn; start = λ known drain all has order d is. absurd (no_some d is) }
 
 pub drains-of-list : DrainsAreThoseOfTheList

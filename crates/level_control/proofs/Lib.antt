@@ -8,3 +8,4 @@ pub mod Growing
 pub mod Falls
 pub mod Windows
 pub mod Counts
+pub mod Settling

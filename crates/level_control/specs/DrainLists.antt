@@ -1,10 +1,18 @@
 -- A drain, from the list of the reports from its last cut on.
-use Rattle.std.specs.Prelude.{ℕ, ℤ, ◌≡◌, ◌+◌, max, true, nat_lt, nat_le, if◌then◌else◌, List, [], ◌∷◌, ◌++◌, All, filter, fold, Some}
+use Rattle.std.specs.Prelude.{ℕ, ℤ, ◌≡◌, ◌≤◌, ◌<◌, ◌+◌, max, Bool, true, false, nat_lt, nat_le, if◌then◌else◌, List, [], ◌∷◌, ◌++◌, All, filter, fold, Some, None, is_some}
 use Rattle.std.specs.Int.{int_max}
+use Rattle.gcc_units.specs.declared.shared_types.Bounds.{Bounds}
+use Rattle.level_control.specs.declared.state.Report.{Report}
+use Rattle.level_control.specs.declared.state.Probed.{Probed}
+use Rattle.level_control.specs.declared.state.State.{State}
 use Rattle.level_control.specs.declared.state.Drain.{Drain}
 use Rattle.level_control.specs.declared.drains.TheConstants.{FALL}
 use Rattle.level_control.specs.Delays.{above}
-use Rattle.level_control.specs.Given.{Given, Seen, seen, after_all, AreInOrder}
+use Rattle.level_control.specs.Drains.{wait}
+use Rattle.level_control.specs.Losses.{after_losses}
+use Rattle.level_control.specs.Rule.{after_report}
+use Rattle.level_control.specs.Steps.{after}
+use Rattle.level_control.specs.Given.{Given, Seen, seen, seen_by, after_all, AreInOrder}
 use Rattle.level_control.specs.AsLists.{least, delays_of, IsNoTurn}
 
 -- those that came while nothing of the cut could be seen, and those after them
@@ -60,3 +68,32 @@ pub record Drains (all : List Seen) (d : Drain) : Type 0 where
 -- Where moments do not run back, a drain is always that of the list.
 abbrev pub DrainsAreThoseOfTheList : Type 0
 DrainsAreThoseOfTheList = (start : ℕ) (given : List Given) (d : Drain) → (after_all start given).drain ≡ Some d → AreInOrder (seen start given) → Drains (seen start given) d
+
+-- ---- its end
+
+-- the last fall, or where there is none, the moment at which the cut could first show
+abbrev pub last_fall : Seen → List Seen → ℕ
+last_fall cut more = last_moment (cut.now + cut.rtt) (falls_of cut more)
+
+-- when a drain may end at a report: a wait after that, by the rate that the report's losses leave
+abbrev pub end_of : State → Report → Seen → List Seen → ℕ
+end_of s x cut more = last_fall cut more + wait (after_losses s x).state.rate
+
+-- A report in a drain, behind the last cut and those so far, ends it no earlier than a wait after the last fall, its
+-- own too; and where it shows a delay and cuts not again, no later.
+pub record EndsBehindFalls (s : State) (all : List Seen) (x : Report) (results : List Probed) (waits : Bool) (bounds : Bounds) : Type 0 where
+  pub earlier : List Seen
+  pub cut : Seen
+  pub more : List Seen
+  pub split : all ≡ earlier ++ cut ∷ more
+  pub is_cut : cut.cut ≡ true
+  pub quiet : All IsNoTurn more
+  pub ended : (after s x results waits bounds).drain ≡ None → end_of s x cut (more ++ seen_by s x x.delay bounds) ≤ x.now
+  pub goes_on : is_some x.delay ≡ true → (after_report s x bounds).cut ≡ false → is_some (after s x results waits bounds).drain ≡ true
+      → x.now < end_of s x cut (more ++ seen_by s x x.delay bounds)
+
+-- Where moments do not run back, so it is at each report in a drain.
+abbrev pub DrainsEndBehindFalls : Type 0
+DrainsEndBehindFalls =
+    (start : ℕ) (given : List Given) (x : Report) (results : List Probed) (waits : Bool) (bounds : Bounds) (d : Drain) → (after_all start given).drain ≡ Some d
+    → AreInOrder (seen start given ++ seen_by (after_all start given) x x.delay bounds) → EndsBehindFalls (after_all start given) (seen start given) x results waits bounds

@@ -2,7 +2,7 @@
 //! whose contracts are the laws.
 
 ghost use Rattle.level_control.specs.Promises.{AllCutsOfTheListLieApart, DrainsOfTheListEndLow, OwnDrainsEndLower, AllReportsGrowSlowly};
-ghost use Rattle.level_control.specs.DrainLists.{DrainsAreThoseOfTheList};
+ghost use Rattle.level_control.specs.DrainLists.{DrainsAreThoseOfTheList, DrainsEndBehindFalls};
 ghost use Rattle.level_control.specs.LossLists.{LossesAreThoseOfTheList};
 ghost use Rattle.level_control.specs.Moving.{MovingChangesNoAnswer};
 ghost use Rattle.level_control.specs.AsLists.{BasesAreThoseOfTheList, ChangesAreThoseOfTheList, FloorsAreThoseOfTheList};
@@ -61,6 +61,12 @@ pub fn moving_changes_no_answer()
 /// and its falls.
 pub fn drains_are_those_of_the_list()
     ensures { DrainsAreThoseOfTheList }
+{}
+
+/// Unless a second cut or a start comes, a drain ends at the first report with a delay that comes a wait after the last
+/// fall, its own too, or where there is none, after the moment at which the cut could first show.
+pub fn drains_end_behind_falls()
+    ensures { DrainsEndBehindFalls }
 {}
 
 /// Loss windows are those of the list: each the shortest that begins where the last one let it, lasts a period and

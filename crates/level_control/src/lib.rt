@@ -32,8 +32,8 @@ mod state;
 
 pub use laws::{
     cuts_are_shown, cuts_lie_apart, delays_are_those_of_the_list, drains_are_those_of_the_list,
-    drains_end_low, levels_lie_in_range, loss_windows_are_those_of_the_list,
-    moving_changes_no_answer, rates_grow_slowly,
+    drains_end_behind_falls, drains_end_low, levels_lie_in_range,
+    loss_windows_are_those_of_the_list, moving_changes_no_answer, rates_grow_slowly,
 };
 use probing::probed;
 use report::{after_report, set_to, started};

@@ -55,7 +55,7 @@ use Rattle.live_sender.specs.Live as live
 use Rattle.live_sender.proofs.Living.{judged-reported}
 use Rattle.steered_sender.specs.declared.steering.Steering.{Steering}
 use Rattle.steered_sender.specs.Measures.{IsTimely}
-use Rattle.steered_sender.specs.Steered.{steered, state_after, answer_to, wanted_by}
+use Rattle.steered_sender.specs.Steered.{answered, steered, state_after, answer_to, wanted_by}
 use Rattle.steered_sender.specs.Steps.{Steers, TakesJudged, Hears}
 use Rattle.steered_sender.proofs.Pushing.{IsQuiet, quiet-accepted, quiet-refused, steers-push, rates-judged, later-least, last-later, or-no}
 
@@ -143,6 +143,26 @@ takes h caller at bytes moment verdict signal m acked rs given before after s st
         let by : (get_or cs k d).sent_at ≤ n = sent k d below in
         record { low = r.low; high = r.high; sent = omega (arith, by, le) }
 
+-- ---- what it answers
+
+pub answer-is : (h : List Entry) (moment : ℕ) (verdict : Judged) (acked : Option ℕ) (told : Answer) (before after : Steering) → Steers before h → Hears moment verdict acked told before after
+    → told ≡ answer_to (steered before.start h).state (cluster_deeds h) (settings h).bounds (est h).rtt moment verdict acked
+answer-is h moment verdict acked told before after s c =
+    let ds : List Deed = cluster_deeds h in
+    c.told_is ds s.clusters s.planned
+    ∙ (ap (λ (x : State). answer_to x ds before.bounds before.rtt moment verdict acked) s.level
+    ∙ (ap (λ b. answer_to (steered before.start h).state ds b before.rtt moment verdict acked) s.bounds
+    ∙ ap (λ r. answer_to (steered before.start h).state ds (settings h).bounds r moment verdict acked) s.round_trip))
+
+pub answers-none : (start : ℕ) (h : List Entry) (given : Reply)
+    → ((moment : ℕ) (verdict : Judged) (signal : Signal) (m : ℤ) (acked : Option ℕ) (rs : Rates) (shares : Listed Share) → given ≡ reply_kind.Credited moment verdict signal m acked rs shares → ⊥)
+    → None ≡ answered start h given
+answers-none start h (reply_kind.Accepted moment index) never = refl
+answers-none start h (reply_kind.Paced moment records) never = refl
+answers-none start h (reply_kind.Credited moment verdict signal m acked rs shares) never = absurd (never _ _ _ _ _ _ _ refl)
+answers-none start h (reply_kind.Configured moment rs shares) never = refl
+answers-none start h (reply_kind.Refused moment cause) never = refl
+
 -- ---- where it leads
 
 pub heard-moves : (h : List Entry) (caller at : ℕ) (bytes : Listed ℕ) (moment : ℕ) (verdict : Judged) (signal : Signal) (m : ℤ) (acked : Option ℕ) (rs : Rates) (given : Listed Share)
@@ -164,10 +184,7 @@ heard-moves h caller at bytes moment verdict signal m acked rs given answered be
           ∙ (ap (λ (x : State). state_after x ds before.bounds before.rtt moment verdict acked) s.level
           ∙ (ap (λ b. state_after (steered before.start h).state ds b before.rtt moment verdict acked) s.bounds
           ∙ ap (λ r. state_after (steered before.start h).state ds (settings h).bounds r moment verdict acked) s.round_trip));
-      wanted = c.wanted ∙ ap (λ a. Some (wanted_by a)) (c.told_is ds s.clusters s.planned
-          ∙ (ap (λ (x : State). answer_to x ds before.bounds before.rtt moment verdict acked) s.level
-          ∙ (ap (λ b. answer_to (steered before.start h).state ds b before.rtt moment verdict acked) s.bounds
-          ∙ ap (λ r. answer_to (steered before.start h).state ds (settings h).bounds r moment verdict acked) s.round_trip)));
+      wanted = c.wanted ∙ ap (λ a. Some (wanted_by a)) (answer-is h moment verdict acked answered before after s c);
       clusters = subst (probes.StandsFor after.clusters.items) (append_assoc ds (map Note verdict.received.items) (takings os)) (c.clusters ds s.clusters);
       planned = ap (λ (l : Listed ℕ). l.items) c.planned ∙ (s.planned ∙ (sym (append-nil (rates ds)) ∙ sym (ap (λ xs. rates ds ++ xs) (rates-judged verdict.received.items os))));
       was_started = c.was_started ∙ (s.was_started ∙ or-no (started h));

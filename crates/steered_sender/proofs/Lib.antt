@@ -6,3 +6,5 @@ pub mod Hearing
 pub mod Pacing
 pub mod Asked
 pub mod Results
+pub mod Limits
+pub mod Behind

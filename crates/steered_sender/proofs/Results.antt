@@ -24,3 +24,15 @@ both-ok P Q S (Err e) p q f = tt
 pub unless-err : {R E : Type 0} (A : Type 0) (o : Result R E) → is_err o ≡ false → OnOk o A → A
 unless-err A (Ok r) fine h = h
 unless-err A (Err e) fine h = absurd cc
+
+pub ok-so : {R E : Type 0} (A B : Type 0) (o : Result R E) → OnOk o A → (A → B) → OnOk o B
+ok-so A B (Ok r) h f = f h
+ok-so A B (Err e) h f = tt
+
+pub if-ok-so : {R E : Type 0} (P Q : R → Type 0) (o : Result R E) → IfOk o P → ((r : R) → P r → Q r) → IfOk o Q
+if-ok-so P Q (Ok r) h f = f r h
+if-ok-so P Q (Err e) h f = tt
+
+pub if-err-so : {R E : Type 0} (P Q : E → Type 0) (o : Result R E) → IfErr o P → ((e : E) → P e → Q e) → IfErr o Q
+if-err-so P Q (Ok r) h f = tt
+if-err-so P Q (Err e) h f = f e h

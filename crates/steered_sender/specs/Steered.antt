@@ -88,6 +88,12 @@ abbrev pub steered : ℕ → List Entry → Steered
 steered start history =
     walk (λ before s (e : Entry). steered_by (est before) (cluster_deeds before) (settings before) s e.caller e.call e.reply) (begun start) history
 
+-- what the control answers to the reply to a report, by the history before it
+abbrev pub answered : ℕ → List Entry → Reply → Option Answer
+answered start h (Credited moment judged signal m acked rates shares) =
+    Some (answer_to (steered start h).state (cluster_deeds h) (settings h).bounds (est h).rtt moment judged acked)
+answered start h given = None
+
 -- ---- the control's changes
 
 -- the change that asks for a rate, and for a probe cluster where one is wanted

@@ -1,15 +1,16 @@
 //! Calls on a sender that a control may steer.
 
-ghost use Rattle.std.specs.Prelude.{◌≡◌, ◌==◌, ◌++◌, ℕ, false, None, List, [], ◌∷◌, IfOk, IfErr, OnOk, OnErr};
+ghost use Rattle.std.specs.Prelude.{◌≡◌, ◌==◌, ◌++◌, ℕ, true, false, None, List, [], ◌∷◌, IfOk, IfErr, OnOk, OnErr};
 ghost use Rattle.rtp_wire.specs.Wires.{bare_wires};
 ghost use Rattle.send_core.specs.declared.call.Call.TheVariants as call;
 ghost use Rattle.send_core.specs.declared.call.Entry.{Entry};
 ghost use Rattle.send_core.specs.History.{entry};
 ghost use Rattle.send_core.specs.Reply.{reply};
 ghost use Rattle.send_core.specs.Wires.{wires};
-ghost use Rattle.live_sender.specs.Live.{StandsFor};
+ghost use Rattle.live_sender.specs.declared.live.LiveFault.TheVariants as fault;
+ghost use Rattle.live_sender.specs.Live.{StandsFor, is_exhausted};
 ghost use Rattle.steered_sender.specs.Steered.{with_wanted};
-ghost use Rattle.steered_sender.specs.Standing.{SteersIf, wanted_of};
+ghost use Rattle.steered_sender.specs.Standing.{SteersIf, answered_if, began_at, wanted_of};
 
 use crate::serving::{configure_both, enqueue_both, pace_both, report_both, serve_wanted};
 use crate::steering::{CONTROL_CALLER, Steering};
@@ -31,6 +32,8 @@ pub fn serve_if(
     ensures wanted { OnOk result (wanted_of steering.new ≡ None) }
     ensures err { OnErr result (sender.new ≡ sender.old) }
     ensures err_steering { OnErr result ((h : List Entry) → SteersIf steering.old h → SteersIf steering.new h) }
+    ensures start { began_at steering.new ≡ began_at steering.old }
+    ensures exhausted { IfErr result (λ e. e ≡ fault.Exhausted → (h : List Entry) → StandsFor sender.old h → is_exhausted h ≡ true) }
 {
     match steering {
         None => Ok(()),
@@ -53,6 +56,9 @@ pub fn pace_if(
     ensures steering { IfOk result (λ a. (h : List Entry) (caller : ℕ) → StandsFor sender.old h → SteersIf steering.old h → SteersIf steering.new (h ++ entry caller (call.Pace at) a.reply ∷ [])) }
     ensures err { OnErr result (sender.new ≡ sender.old) }
     ensures err_steering { OnErr result (steering.new ≡ steering.old) }
+    ensures start { began_at steering.new ≡ began_at steering.old }
+    ensures served { OnOk result ((h : List Entry) → StandsFor sender.old h → is_exhausted h ≡ false) }
+    ensures exhausted { IfErr result (λ e. e ≡ fault.Exhausted → (h : List Entry) → StandsFor sender.old h → is_exhausted h ≡ true) }
 {
     match steering {
         None => sender.pace(alloc, at),
@@ -73,6 +79,8 @@ pub fn enqueue_if(
     ensures sender { IfOk result (λ r. (h : List Entry) (caller : ℕ) → StandsFor sender.old h → StandsFor sender.new (h ++ entry caller (call.Enqueue at class wire) r ∷ [])) }
     ensures steering { IfOk result (λ r. (h : List Entry) (caller : ℕ) → StandsFor sender.old h → SteersIf steering.now h → SteersIf steering.now (h ++ entry caller (call.Enqueue at class wire) r ∷ [])) }
     ensures err { IfErr result (λ e. (sender.new ≡ sender.old) × (e.1 ≡ wire)) }
+    ensures served { OnOk result ((h : List Entry) → StandsFor sender.old h → is_exhausted h ≡ false) }
+    ensures exhausted { IfErr result (λ e. e.0 ≡ fault.Exhausted → (h : List Entry) → StandsFor sender.old h → is_exhausted h ≡ true) }
 {
     match steering {
         None => sender.enqueue(at, class, wire),
@@ -95,6 +103,10 @@ pub fn report_if(
     ensures steering { IfOk result (λ r. (h : List Entry) (caller : ℕ) → StandsFor sender.old h → SteersIf steering.old h → SteersIf steering.new (h ++ entry caller (call.Report at bytes.now) r.0 ∷ [])) }
     ensures err { OnErr result (sender.new ≡ sender.old) }
     ensures err_steering { OnErr result (steering.new ≡ steering.old) }
+    ensures answer { IfOk result (λ r. (h : List Entry) → SteersIf steering.old h → r.1 ≡ answered_if (began_at steering.old) h r.0) }
+    ensures start { began_at steering.new ≡ began_at steering.old }
+    ensures served { OnOk result ((h : List Entry) → StandsFor sender.old h → is_exhausted h ≡ false) }
+    ensures exhausted { IfErr result (λ e. e ≡ fault.Exhausted → (h : List Entry) → StandsFor sender.old h → is_exhausted h ≡ true) }
 {
     match steering {
         None => match sender.report(alloc, at, bytes) {
@@ -120,6 +132,9 @@ pub fn configure_if(
         → SteersIf steering.new (h ++ entry caller (call.Configure at change.now) r ∷ [])) }
     ensures err { OnErr result (sender.new ≡ sender.old) }
     ensures err_steering { OnErr result ((h : List Entry) → SteersIf steering.old h → SteersIf steering.new h) }
+    ensures start { began_at steering.new ≡ began_at steering.old }
+    ensures served { OnOk result ((h : List Entry) → StandsFor sender.old h → is_exhausted h ≡ false) }
+    ensures exhausted { IfErr result (λ e. e ≡ fault.Exhausted → (h : List Entry) → StandsFor sender.old h → is_exhausted h ≡ true) }
 {
     match steering {
         None => sender.configure(alloc, at, change),

@@ -1,6 +1,6 @@
 //! Calls on a sender that a control steers.
 
-ghost use Rattle.std.specs.Prelude.{◌≡◌, ◌==◌, ◌≤◌, ℕ, None, Some, List, [], ◌∷◌, ◌++◌, length, IfOk, IfErr, OnOk, OnErr};
+ghost use Rattle.std.specs.Prelude.{◌≡◌, ◌==◌, ◌≤◌, ℕ, true, false, None, Some, List, [], ◌∷◌, ◌++◌, length, IfOk, IfErr, OnOk, OnErr};
 ghost use Rattle.send_core.specs.declared.call.Call.TheVariants as call;
 ghost use Rattle.send_core.specs.declared.call.Entry.{Entry};
 ghost use Rattle.send_core.specs.History.{entry};
@@ -10,9 +10,9 @@ ghost use Rattle.rtp_wire.specs.Wires.{bare_wires};
 ghost use Rattle.send_core.specs.Wires.{wires};
 ghost use Rattle.send_core.specs.Stands.{AreSettings, Laws, MayGrow};
 ghost use Rattle.send_core.specs.Settings.{settings};
-ghost use Rattle.live_sender.specs.Live.{Live, StandsFor};
-ghost use Rattle.steered_sender.specs.Steered.{with_wanted};
-ghost use Rattle.steered_sender.specs.Steered.{change_for};
+ghost use Rattle.live_sender.specs.declared.live.LiveFault.TheVariants as fault;
+ghost use Rattle.live_sender.specs.Live.{Live, StandsFor, is_exhausted};
+ghost use Rattle.steered_sender.specs.Steered.{answered, change_for, with_wanted};
 ghost use Rattle.steered_sender.specs.Replies.{is_configured};
 ghost use Rattle.steered_sender.specs.Steps.{Steers};
 
@@ -40,6 +40,7 @@ fn note_change(steering: &mut Steering, given: &Reply, change: &Change, own: boo
     ensures stands { (h : List Entry) (caller at : ℕ) → Steers steering.old h → given.now ≡ reply h (call.Configure at change.now) → (caller == CONTROL_CALLER) ≡ own
         → Steers steering.new (h ++ entry caller (call.Configure at change.now) given.now ∷ []) }
     ensures wanted { steering.new.wanted ≡ None }
+    ensures start { steering.new.start ≡ steering.old.start }
 {
     if is_configured(given) {
         steering.change(change, own);
@@ -67,6 +68,9 @@ pub fn configure_both(
     ensures err { OnErr result (sender.new ≡ sender.old) }
     ensures err_steering { OnErr result ((h : List Entry) → Steers steering.old h → Steers steering.new h) }
     ensures err_wanted { OnErr result (steering.new.wanted ≡ steering.old.wanted) }
+    ensures start { steering.new.start ≡ steering.old.start }
+    ensures served { OnOk result ((h : List Entry) → StandsFor sender.old h → is_exhausted h ≡ false) }
+    ensures exhausted { IfErr result (λ e. e ≡ fault.Exhausted → (h : List Entry) → StandsFor sender.old h → is_exhausted h ≡ true) }
 {
     if make_room(&mut steering.clusters, &mut steering.planned).is_err() {
         return Err(LiveFault::NoMemory);
@@ -114,6 +118,8 @@ fn serve_one(
     ensures err { OnErr result (sender.new ≡ sender.old) }
     ensures err_steering { OnErr result ((h : List Entry) → Steers steering.old h → Steers steering.new h) }
     ensures err_wanted { OnErr result (steering.new.wanted ≡ steering.old.wanted) }
+    ensures start { steering.new.start ≡ steering.old.start }
+    ensures exhausted { IfErr result (λ e. e ≡ fault.Exhausted → (h : List Entry) → StandsFor sender.old h → is_exhausted h ≡ true) }
 {
     let change = change_for(alloc, wanted);
     let moment = sender.moment();
@@ -137,6 +143,8 @@ pub fn serve_wanted(
     ensures err { OnErr result (sender.new ≡ sender.old) }
     ensures err_steering { OnErr result ((h : List Entry) → Steers steering.old h → Steers steering.new h) }
     ensures err_wanted { OnErr result (steering.new.wanted ≡ steering.old.wanted) }
+    ensures start { steering.new.start ≡ steering.old.start }
+    ensures exhausted { IfErr result (λ e. e ≡ fault.Exhausted → (h : List Entry) → StandsFor sender.old h → is_exhausted h ≡ true) }
 {
     match steering.wanted {
         None => Ok(()),
@@ -149,6 +157,7 @@ fn note_pace(steering: &mut Steering, given: &Reply)
     requires answered { (h : List Entry) × (at : ℕ) × Steers steering.old h × Laws h × MayGrow h × (given.now ≡ reply h (call.Pace at)) }
     requires nothing { steering.old.wanted ≡ None }
     ensures steering { (h : List Entry) (caller at : ℕ) → Steers steering.old h → given.now ≡ reply h (call.Pace at) → Steers steering.new (h ++ entry caller (call.Pace at) given.now ∷ []) }
+    ensures start { steering.new.start ≡ steering.old.start }
 {
     if let Reply::Paced { at, sent } = given {
         follow_all(&mut steering.clusters, sent.as_slice(), *at);
@@ -170,6 +179,9 @@ pub fn pace_both(
     ensures steering { IfOk result (λ a. (h : List Entry) (caller : ℕ) → StandsFor sender.old h → Steers steering.old h → Steers steering.new (h ++ entry caller (call.Pace at) a.reply ∷ [])) }
     ensures err { OnErr result (sender.new ≡ sender.old) }
     ensures err_steering { OnErr result (steering.new ≡ steering.old) }
+    ensures start { steering.new.start ≡ steering.old.start }
+    ensures served { OnOk result ((h : List Entry) → StandsFor sender.old h → is_exhausted h ≡ false) }
+    ensures exhausted { IfErr result (λ e. e ≡ fault.Exhausted → (h : List Entry) → StandsFor sender.old h → is_exhausted h ≡ true) }
 {
     match sender.pace(alloc, at) {
         Err(fault) => Err(fault),
@@ -189,6 +201,8 @@ fn note_report(steering: &mut Steering, given: &Reply, room: Sequence<Probed>) -
     requires room { length steering.old.clusters.items ≤ room.spare }
     ensures steering { (h : List Entry) (caller at : ℕ) (bytes : Listed ℕ) → Steers steering.old h → given.now ≡ reply h (call.Report at bytes)
         → Steers steering.new (h ++ entry caller (call.Report at bytes) given.now ∷ []) }
+    ensures answer { (h : List Entry) → Steers steering.old h → result ≡ answered steering.old.start h given.now }
+    ensures start { steering.new.start ≡ steering.old.start }
 {
     match given {
         Reply::Credited {
@@ -215,7 +229,11 @@ pub fn report_both(
     ensures sender { IfOk result (λ r. (h : List Entry) (caller : ℕ) → StandsFor sender.old h → StandsFor sender.new (h ++ entry caller (call.Report at bytes.now) r.0 ∷ [])) }
     ensures steering { IfOk result (λ r. (h : List Entry) (caller : ℕ) → StandsFor sender.old h → Steers steering.old h → Steers steering.new (h ++ entry caller (call.Report at bytes.now) r.0 ∷ [])) }
     ensures err { OnErr result (sender.new ≡ sender.old) }
+    ensures answer { IfOk result (λ r. (h : List Entry) → Steers steering.old h → r.1 ≡ answered steering.old.start h r.0) }
     ensures err_steering { OnErr result (steering.new ≡ steering.old) }
+    ensures start { steering.new.start ≡ steering.old.start }
+    ensures served { OnOk result ((h : List Entry) → StandsFor sender.old h → is_exhausted h ≡ false) }
+    ensures exhausted { IfErr result (λ e. e ≡ fault.Exhausted → (h : List Entry) → StandsFor sender.old h → is_exhausted h ≡ true) }
 {
     let mut room = Sequence::new(alloc);
     if room.reserve(steering.planned.len()).is_err() {
@@ -243,6 +261,8 @@ pub fn enqueue_both(
     ensures sender { IfOk result (λ r. (h : List Entry) (caller : ℕ) → StandsFor sender.old h → StandsFor sender.new (h ++ entry caller (call.Enqueue at class wire) r ∷ [])) }
     ensures steering { IfOk result (λ r. (h : List Entry) (caller : ℕ) → StandsFor sender.old h → Steers steering.now h → Steers steering.now (h ++ entry caller (call.Enqueue at class wire) r ∷ [])) }
     ensures err { IfErr result (λ e. (sender.new ≡ sender.old) × (e.1 ≡ wire)) }
+    ensures served { OnOk result ((h : List Entry) → StandsFor sender.old h → is_exhausted h ≡ false) }
+    ensures exhausted { IfErr result (λ e. e.0 ≡ fault.Exhausted → (h : List Entry) → StandsFor sender.old h → is_exhausted h ≡ true) }
 {
     match sender.enqueue(at, class, wire) {
         Err(failed) => Err(failed),

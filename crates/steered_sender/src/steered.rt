@@ -1,7 +1,7 @@
 //! The steered sender.
 
-ghost use Rattle.std.specs.Prelude.{◌≡◌, ◌==◌, ◌⊎◌, ◌++◌, ℕ, false, None, List, [], ◌∷◌, IfOk, IfErr, OnErr};
-ghost use Rattle.steered_sender.specs.Standing.{SteersIf, IsControl, IsBehind, first_wanted, wanted_of};
+ghost use Rattle.std.specs.Prelude.{◌≡◌, ◌==◌, ◌⊎◌, ◌++◌, ℕ, true, false, None, List, [], ◌∷◌, IfOk, IfErr, OnOk, OnErr};
+ghost use Rattle.steered_sender.specs.Standing.{SteersIf, IsControl, IsBehind, answered_if, began_at, first_wanted, start_of, wanted_of};
 
 use crate::choosing::{configure_if, enqueue_if, pace_if, report_if, serve_if};
 use crate::steering::{CONTROL_CALLER, Steering};
@@ -56,7 +56,10 @@ impl SteeredSender {
     ghost use Rattle.send_core.specs.declared.call.Entry.{Entry};
     ghost use Rattle.send_core.specs.History.{entry};
     ghost use Rattle.send_core.specs.Reply.{reply};
+    ghost use Rattle.send_core.specs.Settings.{is_some};
     ghost use Rattle.send_core.specs.Wires.{wires};
+    ghost use Rattle.live_sender.specs.declared.live.LiveFault.TheVariants as fault;
+    ghost use Rattle.live_sender.specs.Live.{is_exhausted};
     ghost use Rattle.live_sender.specs.Live as live;
     ghost use Rattle.steered_sender.specs.Standing.{StandsFor, first, served};
 
@@ -66,6 +69,7 @@ impl SteeredSender {
         requires { IsControl control }
         ensures stands { IfOk result (λ s. StandsFor s (first control)) }
         ensures nothing_wanted { IfOk result (λ s. wanted_of s.steering ≡ None) }
+        ensures control { IfOk result (λ s. began_at s.steering ≡ start_of control) }
     {
         let mut sender = LiveSender::new(alloc)?;
         let mut steering = steering_of(alloc, control);
@@ -83,6 +87,16 @@ impl SteeredSender {
         &self.sender
     }
 
+    /// Whether a change that the control asked for was not served yet, since memory ran out. The next call serves it.
+    pub fn is_asked(&self) -> bool
+        ensures { result ≡ is_some (wanted_of self.now.steering) }
+    {
+        match &self.steering {
+            None => false,
+            Some(steering) => steering.wanted.is_some(),
+        }
+    }
+
     /// What may leave now is sent. On `Err` nothing has changed but that what the control asked for may have been
     /// served.
     pub fn pace(&mut self, alloc: Global, at: u64) -> Result<Answer, LiveFault>
@@ -90,6 +104,9 @@ impl SteeredSender {
         ensures wires { IfOk result (λ a. (history : List Entry) → StandsFor self.old history → a.wires ≡ bare_wires (wires (served self.old history) a.reply)) }
         ensures stands { IfOk result (λ a. (history : List Entry) (caller : ℕ) → StandsFor self.old history → StandsFor self.new (served self.old history ++ entry caller (call.Pace at) a.reply ∷ [])) }
         ensures err { OnErr result ((history : List Entry) → StandsFor self.old history → StandsFor self.new history ⊎ StandsFor self.new (served self.old history)) }
+        ensures control { began_at self.new.steering ≡ began_at self.old.steering }
+        ensures served { OnOk result ((history : List Entry) → StandsFor self.old history → is_exhausted history ≡ false) }
+        ensures exhausted { IfErr result (λ e. e ≡ fault.Exhausted → (history : List Entry) → StandsFor self.old history → is_exhausted history ≡ true) }
     {
         match serve_if(&mut self.sender, &mut self.steering, alloc) {
             Err(fault) => Err(fault),
@@ -110,6 +127,9 @@ impl SteeredSender {
         ensures stands { IfOk result (λ r. (history : List Entry) (caller : ℕ) → StandsFor self.old history → StandsFor self.new (served self.old history ++ entry caller (call.Enqueue at class wire) r ∷ [])) }
         ensures err { OnErr result ((history : List Entry) → StandsFor self.old history → StandsFor self.new history ⊎ StandsFor self.new (served self.old history)) }
         ensures back { IfErr result (λ e. e.1 ≡ wire) }
+        ensures control { began_at self.new.steering ≡ began_at self.old.steering }
+        ensures served { OnOk result ((history : List Entry) → StandsFor self.old history → is_exhausted history ≡ false) }
+        ensures exhausted { IfErr result (λ e. e.0 ≡ fault.Exhausted → (history : List Entry) → StandsFor self.old history → is_exhausted history ≡ true) }
     {
         match serve_if(&mut self.sender, &mut self.steering, alloc) {
             Err(fault) => Err((fault, wire)),
@@ -124,6 +144,9 @@ impl SteeredSender {
         ensures stands { IfOk result (λ r. (history : List Entry) (caller : ℕ) → StandsFor self.old history → (caller == CONTROL_CALLER) ≡ false
             → StandsFor self.new (served self.old history ++ entry caller (call.Configure at change.now) r ∷ [])) }
         ensures err { OnErr result ((history : List Entry) → StandsFor self.old history → StandsFor self.new history ⊎ StandsFor self.new (served self.old history)) }
+        ensures control { began_at self.new.steering ≡ began_at self.old.steering }
+        ensures served { OnOk result ((history : List Entry) → StandsFor self.old history → is_exhausted history ≡ false) }
+        ensures exhausted { IfErr result (λ e. e ≡ fault.Exhausted → (history : List Entry) → StandsFor self.old history → is_exhausted history ≡ true) }
     {
         match serve_if(&mut self.sender, &mut self.steering, alloc) {
             Err(fault) => Err(fault),
@@ -138,7 +161,11 @@ impl SteeredSender {
         ensures reply { IfOk result (λ r. (history : List Entry) → StandsFor self.old history → r.reply ≡ reply (served self.old history) (call.Report at bytes.now)) }
         ensures stands { IfOk result (λ r. (history : List Entry) (caller : ℕ) → StandsFor self.old history
             → IsBehind self.new (served self.old history ++ entry caller (call.Report at bytes.now) r.reply ∷ [])) }
+        ensures answer { IfOk result (λ r. (history : List Entry) → StandsFor self.old history → r.answer ≡ answered_if (began_at self.old.steering) (served self.old history) r.reply) }
         ensures err { OnErr result ((history : List Entry) → StandsFor self.old history → StandsFor self.new history ⊎ StandsFor self.new (served self.old history)) }
+        ensures control { began_at self.new.steering ≡ began_at self.old.steering }
+        ensures served { OnOk result ((history : List Entry) → StandsFor self.old history → is_exhausted history ≡ false) }
+        ensures exhausted { IfErr result (λ e. e ≡ fault.Exhausted → (history : List Entry) → StandsFor self.old history → is_exhausted history ≡ true) }
     {
         if let Err(fault) = serve_if(&mut self.sender, &mut self.steering, alloc) {
             return Err(fault);
@@ -158,6 +185,7 @@ fn steering_of(alloc: Global, control: Control) -> Option<Steering>
     requires { IsControl control }
     ensures stands { SteersIf result [] }
     ensures wanted { wanted_of result ≡ first_wanted control }
+    ensures control { began_at result ≡ start_of control }
 {
     match control {
         Control::Gradient => None,

@@ -31,17 +31,13 @@ follow_all-requires-clause-room c =
     let f = may-follow-given r.0 r.1 c.args.given.now c.in-Paced.at c.in-Paced.sent c.args.steering.now r.2 r.3 r.4 c.in-Paced.is r.5 in
     subst (λ (rs : List Sent). HasRoom (length rs) c.args.steering.now.clusters.items) (sym c.as_slice.ensures.items) f.room
 
-pub returns-in-Paced : goal.returns-in-Paced
-returns-in-Paced c = record {
-  steering = λ h caller at steers answered.
-      let new : Steering = record c.args.steering.now { clusters = c.follow_all.new.clusters } in
-      subst (λ (g : Reply). Steers new (h ++ entry caller (call.Pace at) g ∷ [])) (sym c.in-Paced.is)
-      (paced-moves h caller at c.in-Paced.at c.in-Paced.sent c.args.steering.now new steers c.requires.nothing refl
-      (λ ds s. subst (λ (rs : List Sent). probes.StandsFor c.follow_all.new.clusters.items (ds ++ probes_of c.in-Paced.at rs)) c.as_slice.ensures.items (c.follow_all.ensures ds s)));
-}
+pub returns-in-Paced-clause-steering : goal.returns-in-Paced-clause-steering
+returns-in-Paced-clause-steering c = λ h caller at steers answered.
+    let new : Steering = record c.args.steering.now { clusters = c.follow_all.new.clusters } in
+    subst (λ (g : Reply). Steers new (h ++ entry caller (call.Pace at) g ∷ [])) (sym c.in-Paced.is)
+    (paced-moves h caller at c.in-Paced.at c.in-Paced.sent c.args.steering.now new steers c.requires.nothing refl
+    (λ ds s. subst (λ (rs : List Sent). probes.StandsFor c.follow_all.new.clusters.items (ds ++ probes_of c.in-Paced.at rs)) c.as_slice.ensures.items (c.follow_all.ensures ds s)))
 
-pub returns-in_default : goal.returns-in_default
-returns-in_default c = record {
-  steering = λ h caller at steers answered.
-      quiet-stays h caller (call.Pace at) c.args.given.now c.args.steering.now (pace-refused h at c.args.given.now answered c.in_default.not-Paced) steers c.requires.nothing;
-}
+pub returns-in_default-clause-steering : goal.returns-in_default-clause-steering
+returns-in_default-clause-steering c = λ h caller at steers answered.
+    quiet-stays h caller (call.Pace at) c.args.given.now c.args.steering.now (pace-refused h at c.args.given.now answered c.in_default.not-Paced) steers c.requires.nothing

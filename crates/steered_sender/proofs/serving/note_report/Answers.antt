@@ -4,8 +4,9 @@ use Rattle.send_core.specs.declared.call.Reply.{Reply}
 use Rattle.send_core.specs.declared.call.Entry.{Entry}
 use Rattle.send_core.specs.History.{entry}
 use Rattle.live_sender.specs.Live as live
+use Rattle.steered_sender.specs.Steered.{answered}
 use Rattle.steered_sender.specs.Steps.{Steers}
-use Rattle.steered_sender.proofs.Hearing.{takes, heard-moves, report-refused}
+use Rattle.steered_sender.proofs.Hearing.{takes, heard-moves, answer-is, answers-none, report-refused}
 use Rattle.steered_sender.proofs.Pushing.{quiet-stays}
 use Rattle.steered_sender.proofs.serving.note_report.Goals as goal
 
@@ -22,10 +23,17 @@ returns-in-Credited c = record {
       let k = c.in-Credited in
       subst (λ (g : Reply). Steers c.hear.new.self (h ++ entry caller (call.Report at bytes) g ∷ [])) (sym k.is)
       (heard-moves h caller at bytes k.at k.judged k.signal k.m k.acked k.rates k.shares c.hear.result c.args.steering.now c.hear.new.self steers c.hear.ensures (sym k.is ∙ answered));
+  answer = λ h steers.
+      let k = c.in-Credited in
+      subst (λ (g : Reply). Some c.hear.result ≡ answered c.args.steering.now.start h g) (sym k.is)
+      (ap Some (answer-is h k.at k.judged k.acked c.hear.result c.args.steering.now c.hear.new.self steers c.hear.ensures));
+  start = c.hear.ensures.start;
 }
 
 pub returns-in_default : goal.returns-in_default
 returns-in_default c = record {
   steering = λ h caller at bytes steers answered.
       quiet-stays h caller (call.Report at bytes) c.args.given.now c.args.steering.now (report-refused h at bytes c.args.given.now answered c.in_default.not-Credited) steers c.requires.nothing;
+  answer = λ h steers. answers-none c.args.steering.now.start h c.args.given.now c.in_default.not-Credited;
+  start = refl;
 }

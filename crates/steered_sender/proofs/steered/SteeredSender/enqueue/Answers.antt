@@ -7,7 +7,8 @@ use Rattle.live_sender.specs.Live as live
 use Rattle.steered_sender.specs.declared.steering.Steering.{Steering}
 use Rattle.steered_sender.specs.Steered.{with_wanted}
 use Rattle.steered_sender.specs.Standing.{Kept, StandsFor, SteersIf, IsBehind, served, wanted_of}
-use Rattle.steered_sender.proofs.Results.{by-result, at-ok, at-err, on-ok, on-err, both-ok}
+use Rattle.steered_sender.proofs.Limits.{exhausted-asked}
+use Rattle.steered_sender.proofs.Results.{by-result, at-ok, at-err, on-ok, on-err, both-ok, ok-so, if-err-so}
 use Rattle.steered_sender.proofs.steered.SteeredSender.enqueue.Goals as goal
 
 pub invariant_of-self-in-Ok : goal.invariant_of-self-in-Ok
@@ -34,3 +35,17 @@ returns-in-Ok-clause-stands c =
     let y : SteersIf c.serve_if.new.steering m = c.in-Ok.ensures.steering h t.sender t.steering in
     subst (λ (n : List Entry). StandsFor (record { sender = c.enqueue_if.new.sender; steering = c.serve_if.new.steering }) (n ++ entry caller (call.Enqueue c.args.at c.args.class c.args.wire) r ∷ [])) same
     (record { sender = p m caller x; steering = q m caller x y }))
+
+pub returns-in-Ok-clause-served : goal.returns-in-Ok-clause-served
+returns-in-Ok-clause-served c =
+    ok-so _ _ c.enqueue_if.result c.enqueue_if.ensures.served (λ f h s.
+    let t : StandsFor (record { sender = c.self.inside.sender; steering = c.self.inside.steering }) h = subst (λ (k : Kept). StandsFor k h) (sym c.self.view_is) s in
+    let m : List Entry = with_wanted h (wanted_of c.self.inside.steering) in
+    sym (exhausted-asked h (wanted_of c.self.inside.steering)) ∙ f m (c.in-Ok.ensures.sender h t.sender))
+
+pub returns-in-Ok-clause-exhausted : goal.returns-in-Ok-clause-exhausted
+returns-in-Ok-clause-exhausted c =
+    if-err-so _ _ c.enqueue_if.result c.enqueue_if.ensures.exhausted (λ e f is h s.
+    let t : StandsFor (record { sender = c.self.inside.sender; steering = c.self.inside.steering }) h = subst (λ (k : Kept). StandsFor k h) (sym c.self.view_is) s in
+    let m : List Entry = with_wanted h (wanted_of c.self.inside.steering) in
+    sym (exhausted-asked h (wanted_of c.self.inside.steering)) ∙ f is m (c.in-Ok.ensures.sender h t.sender))

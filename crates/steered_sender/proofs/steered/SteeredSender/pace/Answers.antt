@@ -1,13 +1,17 @@
 use Rattle.std.proofs.Common.{◌≡◌, ℕ, ◌==◌, false, inl, inr, Option, Some, None, Result, Ok, Err, List, [], ◌∷◌, ◌++◌, refl, sym, ◌∙◌, ap, subst}
 use Rattle.send_core.specs.declared.call.Call.TheVariants as call
 use Rattle.send_core.specs.declared.call.Entry.{Entry}
+use Rattle.rtp_wire.specs.Wires.{bare_wires}
 use Rattle.send_core.specs.History.{entry}
+use Rattle.send_core.specs.Reply.{reply}
+use Rattle.send_core.specs.Wires.{wires}
 use Rattle.live_sender.specs.Live.{Live}
 use Rattle.live_sender.specs.Live as live
 use Rattle.steered_sender.specs.declared.steering.Steering.{Steering}
 use Rattle.steered_sender.specs.Steered.{with_wanted}
 use Rattle.steered_sender.specs.Standing.{Kept, StandsFor, SteersIf, IsBehind, served, wanted_of}
-use Rattle.steered_sender.proofs.Results.{by-result, at-ok, at-err, on-ok, on-err, both-ok}
+use Rattle.steered_sender.proofs.Limits.{exhausted-asked}
+use Rattle.steered_sender.proofs.Results.{by-result, at-ok, at-err, on-ok, on-err, both-ok, ok-so, if-ok-so, if-err-so}
 use Rattle.steered_sender.proofs.steered.SteeredSender.pace.Goals as goal
 
 pub pace_if-requires-clause-stands : goal.pace_if-requires-clause-stands
@@ -43,3 +47,33 @@ returns-in-Ok-clause-stands c =
     let y : SteersIf c.serve_if.new.steering m = c.in-Ok.ensures.steering h t.sender t.steering in
     subst (λ (n : List Entry). StandsFor (record { sender = c.pace_if.new.sender; steering = c.pace_if.new.steering }) (n ++ entry caller (call.Pace c.args.at) r.reply ∷ [])) same
     (record { sender = p m caller x; steering = q m caller x y }))
+
+pub returns-in-Ok-clause-served : goal.returns-in-Ok-clause-served
+returns-in-Ok-clause-served c =
+    ok-so _ _ c.pace_if.result c.pace_if.ensures.served (λ f h s.
+    let t : StandsFor (record { sender = c.self.inside.sender; steering = c.self.inside.steering }) h = subst (λ (k : Kept). StandsFor k h) (sym c.self.view_is) s in
+    let m : List Entry = with_wanted h (wanted_of c.self.inside.steering) in
+    sym (exhausted-asked h (wanted_of c.self.inside.steering)) ∙ f m (c.in-Ok.ensures.sender h t.sender))
+
+pub returns-in-Ok-clause-exhausted : goal.returns-in-Ok-clause-exhausted
+returns-in-Ok-clause-exhausted c =
+    if-err-so _ _ c.pace_if.result c.pace_if.ensures.exhausted (λ e f is h s.
+    let t : StandsFor (record { sender = c.self.inside.sender; steering = c.self.inside.steering }) h = subst (λ (k : Kept). StandsFor k h) (sym c.self.view_is) s in
+    let m : List Entry = with_wanted h (wanted_of c.self.inside.steering) in
+    sym (exhausted-asked h (wanted_of c.self.inside.steering)) ∙ f is m (c.in-Ok.ensures.sender h t.sender))
+
+pub returns-in-Ok-clause-reply : goal.returns-in-Ok-clause-reply
+returns-in-Ok-clause-reply c =
+    if-ok-so _ _ c.pace_if.result c.pace_if.ensures.reply (λ a f h s.
+    let t : StandsFor (record { sender = c.self.inside.sender; steering = c.self.inside.steering }) h = subst (λ (k : Kept). StandsFor k h) (sym c.self.view_is) s in
+    let m : List Entry = with_wanted h (wanted_of c.self.inside.steering) in
+    let same : m ≡ served c.args.self.now h = ap (λ (k : Kept). served k h) c.self.view_is in
+    subst (λ (k : List Entry). a.reply ≡ reply k (call.Pace c.args.at)) same (f m (c.in-Ok.ensures.sender h t.sender)))
+
+pub returns-in-Ok-clause-wires : goal.returns-in-Ok-clause-wires
+returns-in-Ok-clause-wires c =
+    if-ok-so _ _ c.pace_if.result c.pace_if.ensures.wires (λ a f h s.
+    let t : StandsFor (record { sender = c.self.inside.sender; steering = c.self.inside.steering }) h = subst (λ (k : Kept). StandsFor k h) (sym c.self.view_is) s in
+    let m : List Entry = with_wanted h (wanted_of c.self.inside.steering) in
+    let same : m ≡ served c.args.self.now h = ap (λ (k : Kept). served k h) c.self.view_is in
+    subst (λ (k : List Entry). a.wires ≡ bare_wires (wires k a.reply)) same (f m (c.in-Ok.ensures.sender h t.sender)))

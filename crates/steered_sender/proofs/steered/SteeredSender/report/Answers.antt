@@ -7,6 +7,8 @@ use Rattle.live_sender.specs.Live as live
 use Rattle.steered_sender.specs.declared.steering.Steering.{Steering}
 use Rattle.steered_sender.specs.Steered.{with_wanted}
 use Rattle.steered_sender.specs.Standing.{Kept, StandsFor, SteersIf, IsBehind, served, wanted_of}
+use Rattle.steered_sender.proofs.Behind.{with-asked}
+use Rattle.steered_sender.proofs.Limits.{exhausted-asked}
 use Rattle.steered_sender.proofs.Results.{by-result, at-ok, at-err, on-ok, on-err, both-ok}
 use Rattle.steered_sender.proofs.steered.SteeredSender.report.Goals as goal
 
@@ -76,16 +78,24 @@ returns-in-Ok-clause-stands c = λ h caller s.
     let u : live.StandsFor c.report_if.new.sender n = c.in-Ok.ensures.sender m caller x in
     let v : SteersIf c.report_if.new.steering n = c.in-Ok.ensures.steering m caller x y in
     let now : Kept = record { sender = c.serve_if-in-Ok.new.sender; steering = c.serve_if-in-Ok.new.steering } in
-    let between : Kept = record { sender = c.report_if.new.sender; steering = c.report_if.new.steering } in
     let behind : IsBehind now n =
     by-result _ c.serve_if-in-Ok.result
-    (λ r is. inr (
-      between,
-      record { sender = u; steering = v },
-      record { sender = on-ok _ c.serve_if-in-Ok.result r is c.serve_if-in-Ok.ensures.sender n u; steering = on-ok _ c.serve_if-in-Ok.result r is c.serve_if-in-Ok.ensures.steering n u v },
-    ))
+    (λ r is. inr (subst (λ (k : List Entry). StandsFor now k) (with-asked c.report_if.new.steering c.serve_if-in-Ok.new.steering n c.serve_if-in-Ok.ensures.start v)
+    (record { sender = on-ok _ c.serve_if-in-Ok.result r is c.serve_if-in-Ok.ensures.sender n u; steering = on-ok _ c.serve_if-in-Ok.result r is c.serve_if-in-Ok.ensures.steering n u v })))
     (λ e is. inl (record {
       sender = subst (λ (l : Live). live.StandsFor l n) (sym (on-err _ c.serve_if-in-Ok.result e is c.serve_if-in-Ok.ensures.err)) u;
       steering = on-err _ c.serve_if-in-Ok.result e is c.serve_if-in-Ok.ensures.err_steering n v;
     })) in
     subst (λ (k : List Entry). IsBehind now (k ++ entry caller (call.Report c.args.at c.args.bytes.now) c.in-Ok.reply ∷ [])) same behind
+
+pub returns-in-Err-report_if-clause-exhausted : goal.returns-in-Err-report_if-clause-exhausted
+returns-in-Err-report_if-clause-exhausted c = λ is h s.
+    let t : StandsFor (record { sender = c.self.inside.sender; steering = c.self.inside.steering }) h = subst (λ (k : Kept). StandsFor k h) (sym c.self.view_is) s in
+    let m : List Entry = with_wanted h (wanted_of c.self.inside.steering) in
+    sym (exhausted-asked h (wanted_of c.self.inside.steering)) ∙ c.in-Err-report_if.ensures.exhausted is m (c.in_default.ensures.sender h t.sender)
+
+pub returns-in-Ok-clause-served : goal.returns-in-Ok-clause-served
+returns-in-Ok-clause-served c = λ h s.
+    let t : StandsFor (record { sender = c.self.inside.sender; steering = c.self.inside.steering }) h = subst (λ (k : Kept). StandsFor k h) (sym c.self.view_is) s in
+    let m : List Entry = with_wanted h (wanted_of c.self.inside.steering) in
+    sym (exhausted-asked h (wanted_of c.self.inside.steering)) ∙ c.in-Ok.ensures.served m (c.in_default.ensures.sender h t.sender)

@@ -16,7 +16,7 @@ use Rattle.rate_control.specs.declared.state.State as control_state
 use Rattle.rate_control.specs.Steps as control
 use Rattle.loss_control.specs.declared.step.State as loss_state
 use Rattle.loss_control.specs.Rule as loss_rule
-use Rattle.loss_control.specs.GivenReports as counted
+use Rattle.loss_control.specs.GatheredReports as counted
 use Rattle.probe_clusters.specs.declared.probes.Outcome.{Outcome}
 use Rattle.estimator.specs.Signals.{Follow, IsSentBy, TakesCredits, report_signal}
 use Rattle.estimator.specs.Report.{add_of, TakesAdds, round_trip, acked_of, delay_after, delay_taking, loss_taking}

@@ -13,7 +13,7 @@ use Rattle.acked_rate.specs.Kept as windowed
 use Rattle.rate_control.specs.declared.state.State as control_state
 use Rattle.loss_control.specs.declared.step.State as loss_state
 use Rattle.loss_control.specs.Rule.{Counts}
-use Rattle.loss_control.specs.GivenReports as counted
+use Rattle.loss_control.specs.GatheredReports as counted
 use Rattle.estimator.specs.declared.estimate.Estimate.{Estimate}
 use Rattle.estimator.specs.Signals.{Follow, IsSentBy}
 use Rattle.estimator.specs.Report.{add_of}

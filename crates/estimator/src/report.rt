@@ -7,7 +7,7 @@ ghost use Rattle.gcc_units.specs.Rates.{IsBounds, IsInBounds};
 ghost use Rattle.acked_rate.specs.Received.{Add};
 ghost use Rattle.acked_rate.specs.Kept as windowed;
 ghost use Rattle.loss_control.specs.Rule.{Counts};
-ghost use Rattle.loss_control.specs.GivenReports as counted;
+ghost use Rattle.loss_control.specs.GatheredReports as counted;
 ghost use Rattle.probe_clusters.specs.Heard.{later_of};
 ghost use Rattle.probe_clusters.specs.Clusters.{outcomes};
 ghost use Rattle.probe_clusters.specs.Deeds as deeds;

@@ -5,7 +5,7 @@ use Rattle.std.proofs.lemmas.List.Sums.{sum_by-append, sum_by-le}
 use Rattle.gcc_units.specs.declared.shared_types.Bounds.{Bounds}
 use Rattle.loss_control.specs.declared.step.State.{State}
 use Rattle.loss_control.specs.Rule.{Counts, after, gathered, renewed, in_bounds, is_due}
-use Rattle.loss_control.specs.GivenReports.{StandsFor, TakesReport}
+use Rattle.loss_control.specs.GatheredReports.{StandsFor, TakesReport}
 use Rattle.gcc_units.specs.declared.limits.TheConstants.{MOST_STATUSES}
 
 gathered-stands : (s : State) (c : Counts) (since : ℕ) (reports : List Counts) → StandsFor s reports → StandsFor (gathered s c since) (reports ++ c ∷ [])

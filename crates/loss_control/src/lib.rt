@@ -11,7 +11,7 @@
 ghost use Rattle.std.specs.Prelude.{◌≡◌, ◌≤◌, [], ◌∷◌, ◌++◌, List, max, unwrap_or};
 ghost use Rattle.gcc_units.specs.Rates.{IsRate, IsBounds, IsInBounds, bounded};
 ghost use Rattle.loss_control.specs.Rule.{Counts, begun, after, with_estimate};
-ghost use Rattle.loss_control.specs.GivenReports.{StandsFor, TakesReport};
+ghost use Rattle.loss_control.specs.GatheredReports.{StandsFor, TakesReport};
 
 use gcc_units::{Bounds, MOST_STATUSES, Moment, Rate};
 use std::marker::Model;

@@ -1,7 +1,7 @@
 use Rattle.std.proofs.Common.{ℕ, ◌≡◌, ◌≤◌, List, [], ◌∷◌, ◌++◌, length, map, All, ap, sym, ◌∙◌, subst}
 use Rattle.gcc_units.specs.declared.shared_types.Credit.{Credit}
 use Rattle.loss_control.specs.Rule.{after}
-use Rattle.loss_control.specs.GivenReports as counted
+use Rattle.loss_control.specs.GatheredReports as counted
 use Rattle.probe_clusters.specs.declared.probes.Outcome.{Outcome}
 use Rattle.probe_clusters.specs.Clusters.{outcomes}
 use Rattle.probe_clusters.specs.Deeds.{Note, StandsFor as StandsOf}

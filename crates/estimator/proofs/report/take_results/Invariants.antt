@@ -1,7 +1,7 @@
 use Rattle.std.proofs.Common.{ℕ, ◌≡◌, ◌++◌, List, length}
 use Rattle.gcc_units.specs.Rates.{IsInBounds}
 use Rattle.loss_control.specs.Rule.{Counts}
-use Rattle.loss_control.specs.GivenReports as counted
+use Rattle.loss_control.specs.GatheredReports as counted
 use Rattle.probe_clusters.specs.Clusters.{outcomes}
 use Rattle.probe_clusters.specs.Deeds.{Deed, StandsFor, ReachedBy, takings}
 use Rattle.estimator.specs.Report.{delay_taking, loss_taking}

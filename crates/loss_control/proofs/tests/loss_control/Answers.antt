@@ -1,7 +1,7 @@
 use Rattle.std.proofs.Common.{[], ◌∷◌, arith}
 use Rattle.std.proofs.lemmas.List.Elements.{All-nil, All-cons}
 use Rattle.loss_control.specs.Rule.{Counts}
-use Rattle.loss_control.specs.GivenReports.{IsCounts}
+use Rattle.loss_control.specs.GatheredReports.{IsCounts}
 use Rattle.loss_control.proofs.tests.loss_control.Goals as goal
 
 -- the first report

@@ -6,9 +6,10 @@ use Rattle.std.proofs.lemmas.Bool.Decides.{nat_tests}
 use Rattle.std.proofs.lemmas.List.Sums.{sum_by-le-sum_by}
 use Rattle.gcc_units.specs.declared.limits.TheConstants.{GREATEST_RATE}
 use Rattle.allocator.specs.declared.stream.Stream.{Stream}
-use Rattle.allocator.specs.Greatest.{IsGreatest, greatest, greatest-is, greatest-none, is_greatest}
+use Rattle.allocator.specs.Greatest.{IsGreatest, greatest}
 use Rattle.allocator.specs.Shares.{share_at, sum_at, fits, level_of, extra, spread, minimum, served, given, given_at, share_in, shares}
 use Rattle.allocator.specs.Order.{in_order}
+use Rattle.allocator.proofs.Greatest.{greatest-is, greatest-none, is_greatest}
 
 share_grows : (a b : ℕ) (s : Stream) → a ≤ b → share_at a s ≤ share_at b s
 share_grows a b s h = let grows : s.weight * a ≤ s.weight * b = mul-le-mul_left s.weight h in omega arith

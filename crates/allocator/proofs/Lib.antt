@@ -1,3 +1,4 @@
+pub mod Greatest
 pub mod Levels
 pub mod Walk
 pub mod Ids

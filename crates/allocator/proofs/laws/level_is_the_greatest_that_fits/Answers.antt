@@ -1,5 +1,5 @@
 use Rattle.gcc_units.specs.declared.limits.TheConstants.{GREATEST_RATE}
-use Rattle.allocator.specs.Greatest.{is_greatest, greatest_is_one, none_passes}
+use Rattle.allocator.proofs.Greatest.{is_greatest, greatest_is_one, none_passes}
 use Rattle.allocator.specs.Shares.{fits}
 use Rattle.allocator.proofs.laws.level_is_the_greatest_that_fits.Goals as goal
 

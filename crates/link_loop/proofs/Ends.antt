@@ -46,7 +46,7 @@ closed s n link some few read =
           let as_sent = ap (λ (os : List Offer). count_of k (map offer_number os)) told.offered ∙ ap (count_of k) (same-numbers m.history) in
           let sums : count_of k (numbers (delivered s m.events)) + count_of k (dropped s (offers m.events)) + count_of k (numbers (held s m.events)) ≡ count_of k (map offer_number (offers m.events)) =
           omega (arith, parts, whole_, offered) in
-          sums ∙ as_sent ∙ each-once k (sent m.history) (all-numbered m.history order.legal);
+          sums ∙ as_sent ∙ each-once k (sent m.history) (all-numbered m.history order.legal.each);
       told = told-delivered m.receiver m.reports (delivered s m.events) m.over reported;
       bases = reported.based;
       credited = λ kept. (credited-looping s n link few kept read).pairs;

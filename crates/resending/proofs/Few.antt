@@ -49,7 +49,7 @@ left_in s h = tally (is_at (is_media s) (accepted h)) (indices (sent h))
 
 -- each packet leaves once
 left_few : (s : RtxSettings) (h : List Entry) → IsLegal h → left_in s h ≤ media_in s h
-left_few s h legal = few_places (is_media s) (accepted h) (indices (sent h)) (named_once [] (sent h) (all-fresh h legal))
+left_few s h legal = few_places (is_media s) (accepted h) (indices (sent h)) (named_once [] (sent h) (all-fresh h legal.each))
 
 accepted-push : (h : List Entry) (call : Call) → accepted (called h call) ≡ accepted h ++ accepted_by call (reply h call)
 accepted-push h call = flat_map-push (λ (e : Entry). accepted_by e.call e.reply) h (entry 0 call (reply h call))
@@ -159,8 +159,8 @@ few-call s n v call so room is =
     let h : List Entry = v.history in
     let entries = few_entries s n v so is in
     let legal = legal-called h call is.legal (omega (arith, entries, room)) in
-    let read = all-read h is.legal in
-    let grown = grown_all s v.events (accepted h) (extension_id h) (sent_by (reply h call)) read.low read.high (sent-read h [] (entry 0 call (reply h call)) legal) in
+    let read = all-read h is.legal.each in
+    let grown = grown_all s v.events (accepted h) (extension_id h) (sent_by (reply h call)) read.low read.high (sent-read h [] (entry 0 call (reply h call)) legal.each) in
     let one = length-append h (entry 0 call (reply h call) ∷ []) in
     let left = left-push s h call in
     let media = media-push s h call in

@@ -120,8 +120,8 @@ legal-before h more legal =
 pub can-read : (h : List Entry) (call : Call) → IsLegal (called h call) → All (CanRead (extension_id h)) (wires h (reply h call))
 can-read h call legal =
     let e : Entry = entry 0 call (reply h call) in
-    let read = all-read h (legal-before h (e ∷ []) legal) in
-    let each = sent-read h [] e legal in
+    let read = all-read h (legal-before h (e ∷ []) legal).each in
+    let each = sent-read h [] e legal.each in
     λ k d below. record { low = read.low; high = read.high; is_read = each k d below }
 
 pub wire-count : (h : List Entry) (given : Reply) → length (wires h given) ≡ length (sent_by given)

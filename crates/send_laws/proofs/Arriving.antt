@@ -32,13 +32,13 @@ use Rattle.send_core.specs.declared.call.Entry.{Entry}
 use Rattle.send_core.specs.History.{at_of, later, now, accepted, waiting}
 use Rattle.send_core.specs.Settings.{fault_of}
 use Rattle.send_core.specs.Reports.{events, cluster_deeds}
-use Rattle.send_core.specs.Reply.{extension_id, enqueued, reported as reported_reply, configured, standing, reply_in_time, reply, IsLegal}
+use Rattle.send_core.specs.Reply.{extension_id, enqueued, reported as reported_reply, configured, standing, reply_in_time, reply, IsAnswered, IsLegal}
 use Rattle.send_core.specs.Stands.{IsOutgoing, Laws, MoreLaws}
 use Rattle.send_core.proofs.Judging.{All-slice_get}
 use Rattle.send_core.proofs.LawsKept.{ReadsFew, has_few, laws-first, more-first, laws-push, more-push}
 use Rattle.send_laws.specs.Credits.{Brings, BringsBytes, HasBytes, AreByteReports, credits, number_of, credited_numbers}
 use Rattle.send_laws.specs.InRange.{all_credits}
-use Rattle.send_laws.proofs.Sending.{legal-reply}
+use Rattle.send_laws.proofs.Sending.{answered-reply}
 use Rattle.send_laws.proofs.Remaining.{told-balanced}
 
 -- ---- the laws of a legal history
@@ -52,20 +52,20 @@ reads-few (Configure at change) bytes = tt
 abbrev HasLaws : List Entry → Type 0
 HasLaws h = Laws h × MoreLaws h
 
-laws-next : (before rest : List Entry) (e : Entry) → IsLegal (before ++ e ∷ rest) → HasBytes e → HasLaws before → HasLaws (before ++ e ∷ [])
+laws-next : (before rest : List Entry) (e : Entry) → IsAnswered (before ++ e ∷ rest) → HasBytes e → HasLaws before → HasLaws (before ++ e ∷ [])
 laws-next before rest e legal bytes laws =
     let few = has_few e.call e.reply (reads-few e.call bytes) in
-    let is = legal-reply before rest e legal in
+    let is = answered-reply before rest e legal in
     (laws-push before e.caller e.call e.reply laws.0 laws.1 few is, more-push before e.caller e.call e.reply laws.0 laws.1 few is)
 
-laws-rest : (before rest : List Entry) → IsLegal (before ++ rest) → AreByteReports rest → HasLaws before → HasLaws (before ++ rest)
+laws-rest : (before rest : List Entry) → IsAnswered (before ++ rest) → AreByteReports rest → HasLaws before → HasLaws (before ++ rest)
 laws-rest before [] legal bytes laws = subst HasLaws (sym (append-nil before)) laws
 laws-rest before (e ∷ rest) legal bytes laws =
     subst HasLaws (append_assoc before (e ∷ []) rest)
-    (laws-rest (before ++ e ∷ []) rest (subst IsLegal (sym (append_assoc before (e ∷ []) rest)) legal) (All-tail HasBytes e rest bytes)
+    (laws-rest (before ++ e ∷ []) rest (subst IsAnswered (sym (append_assoc before (e ∷ []) rest)) legal) (All-tail HasBytes e rest bytes)
     (laws-next before rest e legal (All-head HasBytes e rest bytes) laws))
 
-laws-of : (h : List Entry) → IsLegal h → AreByteReports h → Laws h
+laws-of : (h : List Entry) → IsAnswered h → AreByteReports h → Laws h
 laws-of h legal bytes = (laws-rest [] h legal bytes (laws-first, more-first)).0
 
 -- ---- arrivals
@@ -212,8 +212,8 @@ within-rest reads before (e ∷ rest) legal laws bytes =
     let here : All IsWithin (credits (reply before e.call)) =
     credits-by (All IsWithin) before e.call (All-nil IsWithin)
     (λ report brings. judged-within before report laws.0 short (brought-fits reads e.call report first brings)) in
-    All-append IsWithin (credits e.reply) (all_credits rest) (subst (λ r. All IsWithin (credits r)) (sym (legal-reply before rest e legal)) here)
-    (within-rest reads (before ++ e ∷ []) rest (subst IsLegal (sym (append_assoc before (e ∷ []) rest)) legal) (laws-next before rest e legal first laws) (All-tail HasBytes e rest bytes))
+    All-append IsWithin (credits e.reply) (all_credits rest) (subst (λ r. All IsWithin (credits r)) (sym (answered-reply before rest e legal.each)) here)
+    (within-rest reads (before ++ e ∷ []) rest (subst IsLegal (sym (append_assoc before (e ∷ []) rest)) legal) (laws-next before rest e legal.each first laws) (All-tail HasBytes e rest bytes))
 
 pub all-within : ReadsWithin → (h : List Entry) → IsLegal h → AreByteReports h → All IsWithin (all_credits h)
 all-within reads h legal bytes = within-rest reads [] h legal (laws-first, more-first) bytes
@@ -231,5 +231,5 @@ as-many (e ∷ rest) =
 
 pub all-few : (h : List Entry) → IsLegal h → AreByteReports h → length (all_credits h) ≤ MOST_PACKETS
 all-few h legal bytes =
-    let laws : Laws h = laws-of h legal bytes in
-    omega (arith, as-many h, told-balanced h legal bytes, laws.few, legal.short)
+    let laws : Laws h = laws-of h legal.each bytes in
+    omega (arith, as-many h, told-balanced h legal.each bytes, laws.few, legal.short)

@@ -18,19 +18,19 @@ use Rattle.pacer.specs.Sends.{paced-opens}
 use Rattle.send_core.specs.declared.call.Entry.{Entry}
 use Rattle.send_core.specs.History.{later, now, sent, sent_by}
 use Rattle.send_core.specs.Levels.{rate, window, passing, spending, deeds_by, deeds}
-use Rattle.send_core.specs.Reply.{terms_at, standing_at, IsLegal}
+use Rattle.send_core.specs.Reply.{terms_at, standing_at, IsAnswered}
 use Rattle.send_laws.specs.Spans.{media_bytes, spent_size, all_spent, spent_bytes, last_as, last_media, integral}
-use Rattle.send_laws.proofs.Sending.{legal-sends}
+use Rattle.send_laws.proofs.Sending.{answered-sends}
 use Rattle.send_laws.proofs.Spent.{or-nil, or-true, has_media-append, spent-none, spent-front, spent-all, media-few}
 
 abbrev deeds_from : List Entry → List Entry → List Deed
 deeds_from before rest = flat_map (λ (ds : List Deed). ds) (each_by deeds_by before rest)
 
 -- the level is open at each media packet
-entry-opens : (before rest : List Entry) (e : Entry) → IsLegal (before ++ e ∷ rest) → Opens (level (deeds before)) (deeds_by before e)
+entry-opens : (before rest : List Entry) (e : Entry) → IsAnswered (before ++ e ∷ rest) → Opens (level (deeds before)) (deeds_by before e)
 entry-opens before rest e legal =
     let m : ℕ = later (now before) e.call in
-    legal-sends (λ rs. Opens (step (level (deeds before)) (passing before m)) (spending rs)) before rest e legal tt
+    answered-sends (λ rs. Opens (step (level (deeds before)) (passing before m)) (spending rs)) before rest e legal tt
     (subst (λ l. Opens l (spending (paced MOST_SENDS (terms_at before m) (standing_at before m)))) (level-step (deeds before) (passing before m))
     (paced-opens MOST_SENDS (terms_at before m) (standing_at before m)))
 
@@ -39,12 +39,12 @@ level-after before e =
     ap level (flat_each-push deeds_by before e)
     ∙ sym (StandsFor-steps (level (deeds before)) (deeds before) (deeds_by before e) (record { least = refl })).least
 
-rest-opens : (before rest : List Entry) → IsLegal (before ++ rest) → Opens (level (deeds before)) (deeds_from before rest)
+rest-opens : (before rest : List Entry) → IsAnswered (before ++ rest) → Opens (level (deeds before)) (deeds_from before rest)
 rest-opens before [] legal = tt
 rest-opens before (e ∷ rest) legal =
     Opens-append (level (deeds before)) (deeds_by before e) (deeds_from (before ++ e ∷ []) rest) (entry-opens before rest e legal)
     (subst (λ l. Opens l (deeds_from (before ++ e ∷ []) rest)) (level-after before e)
-    (rest-opens (before ++ e ∷ []) rest (subst IsLegal (sym (append_assoc before (e ∷ []) rest)) legal)))
+    (rest-opens (before ++ e ∷ []) rest (subst IsAnswered (sym (append_assoc before (e ∷ []) rest)) legal)))
 
 -- ---- the count of a span, in words of its records
 
@@ -133,7 +133,7 @@ nothing : (most : ℕ) → IsWithin (pos most) none_counted
 nothing most = omega (arith, ints)
 
 -- paced media of a span, with the probes before the last of it, is at most what the rates come to over it, what the window holds, and the last media packet
-pub spent-bounded : (before rest : List Entry) (first : Entry) → IsLegal (before ++ first ∷ rest)
+pub spent-bounded : (before rest : List Entry) (first : Entry) → IsAnswered (before ++ first ∷ rest)
     → 8000000 * spent_bytes (sent (first ∷ rest))
     ≤ integral (before ++ first ∷ []) rest + rate before * window before + 8000000 * last_media (sent (first ∷ rest))
 spent-bounded before rest first legal =
@@ -147,7 +147,7 @@ spent-bounded before rest first legal =
     (cut (level (deeds before)) (rate before * (m - now before)) (rate before * window before)) (nothing (rate before * window before)))
 
 -- so is paced media alone
-pub media-bounded : (before rest : List Entry) (first : Entry) → IsLegal (before ++ first ∷ rest)
+pub media-bounded : (before rest : List Entry) (first : Entry) → IsAnswered (before ++ first ∷ rest)
     → 8000000 * media_bytes (sent (first ∷ rest))
     ≤ integral (before ++ first ∷ []) rest + rate before * window before + 8000000 * last_media (sent (first ∷ rest))
 media-bounded before rest first legal = omega (arith, media-few (sent (first ∷ rest)), spent-bounded before rest first legal)

@@ -16,9 +16,9 @@ use Rattle.send_core.specs.declared.call.Cause.TheVariants as cause
 use Rattle.send_core.specs.declared.call.Entry.{Entry}
 use Rattle.send_core.specs.History.{at_of, later, now}
 use Rattle.send_core.specs.Reports.{events}
-use Rattle.send_core.specs.Reply.{reported, reply_in_time, reply, IsLegal}
+use Rattle.send_core.specs.Reply.{reported, reply_in_time, reply, IsAnswered}
 use Rattle.send_laws.specs.Credits.{Brings, credits, number_of}
-use Rattle.send_laws.proofs.Sending.{legal-reply}
+use Rattle.send_laws.proofs.Sending.{answered-reply}
 
 credits-read : (h : List Entry) (m : ℕ) (report : Feedback) (o : Result Feedback ReportFault) → o ≡ Ok report
     → credits (reported h m o) ≡ credits_in (judged (events h) report)
@@ -39,10 +39,10 @@ credits-are h c report brings le = by_time (nat_lt GREATEST_MOMENT (at_of c)) (l
     by_time true e = absurd cc
     by_time false e = credits-in_time h (later (now h) c) c report brings
 
-pub credited-exactly : (before rest : List Entry) (e : Entry) (report : Feedback) (n : ℕ) → IsLegal (before ++ e ∷ rest)
+pub credited-exactly : (before rest : List Entry) (e : Entry) (report : Feedback) (n : ℕ) → IsAnswered (before ++ e ∷ rest)
     → Brings e.call report → at_of e.call ≤ GREATEST_MOMENT
     → Contains (map number_of (credits e.reply)) n ↔ (IsOutstanding (account (events before)) n × IsNamedReceived (account (events before)) report n)
 credited-exactly before rest e report n legal brings le =
     let is : credits e.reply ≡ credits_in (judged (events before) report) =
-    ap credits (legal-reply before rest e legal) ∙ credits-are before e.call report brings le in
+    ap credits (answered-reply before rest e legal) ∙ credits-are before e.call report brings le in
     rw is (credits_exact (account (events before)) report n)

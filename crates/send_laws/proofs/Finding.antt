@@ -14,7 +14,7 @@ use Rattle.send_core.specs.declared.call.Entry.{Entry}
 use Rattle.send_core.specs.History.{sent_by}
 use Rattle.send_core.specs.Settings.{starts_by, started, start_plans, probe_plans}
 use Rattle.send_core.specs.Reports.{deeds_by, cluster_deeds}
-use Rattle.send_core.specs.Reply.{IsLegal}
+use Rattle.send_core.specs.Reply.{IsAnswered}
 use Rattle.send_laws.specs.declared.probes.Sends.{Sends}
 use Rattle.send_laws.specs.declared.plans.Planned.{Planned}
 use Rattle.send_laws.specs.Probes.{planned_rate, probe_sizes, probe_moments, before_last, last_of, time_over}
@@ -86,7 +86,7 @@ deeds-next : (h : List Entry) (k : ℕ) (e : Entry) → slice_get h k ≡ Some e
     → cluster_deeds (take (k + 1) h) ≡ cluster_deeds (take k h) ++ deeds_by (started (take k h)) (cluster_deeds (take k h)) e.call e.reply
 deeds-next h k e is = ap cluster_deeds (take-next h k e is) ∙ cluster_deeds-push (take k h) e
 
-pub sends-next : (id : ℕ) (h : List Entry) (k : ℕ) (s t : Sends) (e : Entry) → slice_get h k ≡ Some e → IsLegal h → HasSends id h k s
+pub sends-next : (id : ℕ) (h : List Entry) (k : ℕ) (s t : Sends) (e : Entry) → slice_get h k ≡ Some e → IsAnswered h → HasSends id h k s
     → ((ds : List Deed) → AreSends id ds s → AreSends id (ds ++ sends_in e.reply) t) → t.bytes ≤ s.bytes + 2 ^ 32 * length (sent_by e.reply) → HasSends id h (k + 1) t
 sends-next id h k s t e is legal so_far adds little =
     let ds : List Deed = cluster_deeds (take k h) in
@@ -171,7 +171,7 @@ some-sent id walked h s first same found some none =
     empty [] (m ∷ ms) many is none = omega (arith, many)
     empty (x ∷ xs) ms many is none = cc
 
-pub was-planned : (id : ℕ) (h : List Entry) (s : Sends) (first : ℕ) → IsLegal h → AreSends id (cluster_deeds h) s → s.first ≡ Some first → planned_rate id h ≡ None → ⊥
+pub was-planned : (id : ℕ) (h : List Entry) (s : Sends) (first : ℕ) → IsAnswered h → AreSends id (cluster_deeds h) s → s.first ≡ Some first → planned_rate id h ≡ None → ⊥
 was-planned id h s first legal found some none = some-sent id h h s first refl found some (probes-planned h id legal none)
 
 pub time-is : (id : ℕ) (walked h : List Entry) (s : Sends) (first time : ℕ) → walked ≡ h → AreSends id (cluster_deeds walked) s → s.first ≡ Some first → time ≡ s.last - first
@@ -182,14 +182,14 @@ time-is id walked h s first time same found some is =
     ∙ (ap (λ n. last_of (probe_moments id walked) - n) (sym (get_or_from_slice_get (probe_moments id walked) 0 first 0 (sym found.begins ∙ some)))
     ∙ ap (λ es. time_over (probe_moments id es)) same))
 
-pub first-before : (id : ℕ) (walked h : List Entry) (s : Sends) (first : ℕ) → walked ≡ h → IsLegal h → AreSends id (cluster_deeds walked) s → s.first ≡ Some first → first ≤ s.last
+pub first-before : (id : ℕ) (walked h : List Entry) (s : Sends) (first : ℕ) → walked ≡ h → IsAnswered h → AreSends id (cluster_deeds walked) s → s.first ≡ Some first → first ≤ s.last
 first-before id walked h s first same legal found some =
     let begins : slice_index (probe_moments id h) 0 ≡ first =
     ap (λ es. slice_index (probe_moments id es) 0) (sym same) ∙ get_or_from_slice_get (probe_moments id walked) 0 first 0 (sym found.begins ∙ some) in
     let ends : last_of (probe_moments id h) ≡ s.last = ap (λ es. last_of (probe_moments id es)) (sym same) ∙ sym found.ends in
     omega (arith, probes-rise h id legal, begins, ends)
 
-pub span-within : (id : ℕ) (walked h : List Entry) (s : Sends) (first rate time : ℕ) → walked ≡ h → IsLegal h → AreSends id (cluster_deeds walked) s → s.first ≡ Some first
+pub span-within : (id : ℕ) (walked h : List Entry) (s : Sends) (first rate time : ℕ) → walked ≡ h → IsAnswered h → AreSends id (cluster_deeds walked) s → s.first ≡ Some first
     → planned_rate id walked ≡ Some rate → time ≡ s.last - first → 8000000 * s.before_last ≤ rate * time
 span-within id walked h s first rate time same legal found some planned is =
     subst (λ n. 8000000 * n ≤ rate * time) (sym (found.before ∙ ap (λ es. before_last (probe_sizes id es)) same))

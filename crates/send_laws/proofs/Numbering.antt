@@ -8,9 +8,9 @@ use Rattle.pacer.specs.Pace.{Standing, rule, after, then_on, paced, paced-zero, 
 use Rattle.pacer.specs.Ruled.{rule-is}
 use Rattle.send_core.specs.declared.call.Entry.{Entry}
 use Rattle.send_core.specs.History.{later, now, sent, sent_by}
-use Rattle.send_core.specs.Reply.{terms_at, standing_at, IsLegal}
+use Rattle.send_core.specs.Reply.{terms_at, standing_at, IsAnswered}
 use Rattle.send_laws.specs.Order.{AreNumbered}
-use Rattle.send_laws.proofs.Sending.{legal-sends}
+use Rattle.send_laws.proofs.Sending.{answered-sends}
 
 paced-numbered : (most : ℕ) (terms : Terms) (s : Standing) (n : ℕ) → s.number ≡ n → AreNumbered n (paced most terms s)
 paced-numbered zero terms s n is = rw (paced-zero terms s) tt
@@ -28,15 +28,15 @@ AreNumbered-append n (x ∷ xs) ys first second =
     let e : n + suc (length xs) ≡ n + 1 + length xs = omega arith in
     (first.0, AreNumbered-append (n + 1) xs ys first.1 (subst (λ k. AreNumbered k ys) e second))
 
-rest-numbered : (before rest : List Entry) → IsLegal (before ++ rest) → AreNumbered (length (sent before)) (sent rest)
+rest-numbered : (before rest : List Entry) → IsAnswered (before ++ rest) → AreNumbered (length (sent before)) (sent rest)
 rest-numbered before [] legal = tt
 rest-numbered before (e ∷ rest) legal =
     let m : ℕ = later (now before) e.call in
     AreNumbered-append (length (sent before)) (sent_by e.reply) (sent rest)
-    (legal-sends (AreNumbered (length (sent before))) before rest e legal tt (paced-numbered MOST_SENDS (terms_at before m) (standing_at before m) (length (sent before)) refl))
+    (answered-sends (AreNumbered (length (sent before))) before rest e legal tt (paced-numbered MOST_SENDS (terms_at before m) (standing_at before m) (length (sent before)) refl))
     (subst (λ k. AreNumbered k (sent rest))
     (ap length (flat_map-push (λ (x : Entry). sent_by x.reply) before e) ∙ length-append (sent before) (sent_by e.reply))
-    (rest-numbered (before ++ e ∷ []) rest (subst IsLegal (sym (append_assoc before (e ∷ []) rest)) legal)))
+    (rest-numbered (before ++ e ∷ []) rest (subst IsAnswered (sym (append_assoc before (e ∷ []) rest)) legal)))
 
-pub all-numbered : (history : List Entry) → IsLegal history → AreNumbered 0 (sent history)
+pub all-numbered : (history : List Entry) → IsAnswered history → AreNumbered 0 (sent history)
 all-numbered history legal = rest-numbered [] history legal

@@ -14,9 +14,9 @@ use Rattle.pacer.specs.Records.{unsent-then}
 use Rattle.pacer.specs.Ruled.{rule-is}
 use Rattle.send_core.specs.declared.call.Entry.{Entry}
 use Rattle.send_core.specs.History.{later, now, tickets, sent, sent_by}
-use Rattle.send_core.specs.Reply.{terms_at, standing_at, IsLegal}
+use Rattle.send_core.specs.Reply.{terms_at, standing_at, IsAnswered}
 use Rattle.send_laws.specs.Order.{AreInOrder, IsNotAmong, AreFresh}
-use Rattle.send_laws.proofs.Sending.{legal-sends}
+use Rattle.send_laws.proofs.Sending.{answered-sends}
 
 paced-in_order : (most : ℕ) (terms : Terms) (s : Standing) (all : List Ticket) (so_far : List Sent)
     → s.waiting ≡ unsent so_far all → AreInOrder all so_far (paced most terms s)
@@ -32,9 +32,9 @@ paced-in_order (suc most) terms s all so_far is =
     by_rule (Some r) e more = ((rule-is terms s r e).index ∙ ap (λ ts. index_of (next ts)) is, more r)
 
 -- what one entry of a legal history sends
-pub in-order : (before rest : List Entry) (e : Entry) → IsLegal (before ++ e ∷ rest) → AreInOrder (tickets before) (sent before) (sent_by e.reply)
+pub in-order : (before rest : List Entry) (e : Entry) → IsAnswered (before ++ e ∷ rest) → AreInOrder (tickets before) (sent before) (sent_by e.reply)
 in-order before rest e legal =
-    legal-sends (AreInOrder (tickets before) (sent before)) before rest e legal tt
+    answered-sends (AreInOrder (tickets before) (sent before)) before rest e legal tt
     (paced-in_order MOST_SENDS (terms_at before (later (now before) e.call)) (standing_at before (later (now before) e.call)) (tickets before) (sent before) refl)
 
 -- ---- none twice
@@ -67,13 +67,13 @@ AreFresh-append so_far [] ys first second = subst (λ zs. AreFresh zs ys) (appen
 AreFresh-append so_far (x ∷ xs) ys first second =
     (first.0, AreFresh-append (so_far ++ x ∷ []) xs ys first.1 (subst (λ zs. AreFresh zs ys) (sym (append_assoc so_far (x ∷ []) xs)) second))
 
-rest-fresh : (before rest : List Entry) → IsLegal (before ++ rest) → AreFresh (sent before) (sent rest)
+rest-fresh : (before rest : List Entry) → IsAnswered (before ++ rest) → AreFresh (sent before) (sent rest)
 rest-fresh before [] legal = tt
 rest-fresh before (e ∷ rest) legal =
     AreFresh-append (sent before) (sent_by e.reply) (sent rest)
     (order-fresh (tickets before) (sent before) (sent_by e.reply) (in-order before rest e legal))
     (subst (λ rs. AreFresh rs (sent rest)) (flat_map-push (λ (x : Entry). sent_by x.reply) before e)
-    (rest-fresh (before ++ e ∷ []) rest (subst IsLegal (sym (append_assoc before (e ∷ []) rest)) legal)))
+    (rest-fresh (before ++ e ∷ []) rest (subst IsAnswered (sym (append_assoc before (e ∷ []) rest)) legal)))
 
-pub all-fresh : (history : List Entry) → IsLegal history → AreFresh [] (sent history)
+pub all-fresh : (history : List Entry) → IsAnswered history → AreFresh [] (sent history)
 all-fresh history legal = rest-fresh [] history legal

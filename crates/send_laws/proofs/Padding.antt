@@ -18,9 +18,9 @@ use Rattle.send_core.specs.declared.call.Entry.{Entry}
 use Rattle.send_core.specs.History.{later, now, sent, sent_by}
 use Rattle.send_core.specs.Levels.{window, padding_rate, padding_passing, floor, padding}
 use Rattle.send_core.specs.Levels as levels
-use Rattle.send_core.specs.Reply.{terms_at, standing_at, IsLegal}
+use Rattle.send_core.specs.Reply.{terms_at, standing_at, IsAnswered}
 use Rattle.send_laws.specs.Spans.{padding_as, padding_size, padding_bytes, padding_last_as, last_padding, padding_integral}
-use Rattle.send_laws.proofs.Sending.{legal-sends}
+use Rattle.send_laws.proofs.Sending.{answered-sends}
 
 abbrev last_from : ℕ → List Sent → ℕ
 last_from last records = fold (λ l (r : Sent). padding_last_as l r.kind r.size) last records
@@ -69,11 +69,11 @@ passed : (most level : ℤ) (bytes last gain cap : ℕ) → IsWithin most level 
 passed most level bytes last gain held h = record { low = omega (arith, ints, clamps, h.low); all = omega (arith, ints, h.all) }
 
 -- the sends of one entry, from the level before them
-entry-keeps : (before rest : List Entry) (e : Entry) → IsLegal (before ++ e ∷ rest)
+entry-keeps : (before rest : List Entry) (e : Entry) → IsAnswered (before ++ e ∷ rest)
     → Keeps (floor before) (step (padding before) (padding_passing before (later (now before) e.call))) (sent_by e.reply)
 entry-keeps before rest e legal =
     let m : ℕ = later (now before) e.call in
-    legal-sends (Keeps (floor before) (step (padding before) (padding_passing before m))) before rest e legal
+    answered-sends (Keeps (floor before) (step (padding before) (padding_passing before m))) before rest e legal
     (keeps-none (floor before) (step (padding before) (padding_passing before m)))
     (paced-keeps MOST_SENDS (terms_at before m) (standing_at before m))
 
@@ -84,7 +84,7 @@ moved : (most : ℤ) (level l : ℤ) (bytes b last : ℕ) → level ≡ l → by
 moved most level l bytes b last same equal h = subst (λ x. IsWithin most x b last) same (subst (λ x. IsWithin most level x last) equal h)
 
 -- the entries of a span after its first
-rest-keeps : (before rest : List Entry) → IsLegal (before ++ rest) → (most : ℤ) (bytes last : ℕ) → IsWithin most (padding before) bytes last
+rest-keeps : (before rest : List Entry) → IsAnswered (before ++ rest) → (most : ℤ) (bytes last : ℕ) → IsWithin most (padding before) bytes last
     → bits (bytes + padding_bytes (sent rest)) ≤ℤ (most +ℤ pos (padding_integral before rest) +ℤ bits (last_from last (sent rest)))
 rest-keeps before [] legal most bytes last h = omega (arith, ints, h.all)
 rest-keeps before (e ∷ rest) legal most bytes last h =
@@ -100,7 +100,7 @@ rest-keeps before (e ∷ rest) legal most bytes last h =
     ended (bytes + padding_bytes rs) (padding_bytes (sent rest)) bytes (padding_bytes rs) (padding_bytes (rs ++ sent rest)) gain (padding_integral (before ++ e ∷ []) rest) most
     (last_from (last_from last rs) (sent rest)) (last_from last (rs ++ sent rest)) refl (sum_by-append padding_size rs (sent rest))
     (fold-append (λ l (r : Sent). padding_last_as l r.kind r.size) last rs (sent rest))
-    (rest-keeps (before ++ e ∷ []) rest (subst IsLegal (sym (append_assoc before (e ∷ []) rest)) legal) (most +ℤ pos gain) (bytes + padding_bytes rs) (last_from last rs) next)
+    (rest-keeps (before ++ e ∷ []) rest (subst IsAnswered (sym (append_assoc before (e ∷ []) rest)) legal) (most +ℤ pos gain) (bytes + padding_bytes rs) (last_from last rs) next)
   where
     ended : (all more bytes here total gain later : ℕ) (most : ℤ) (end last : ℕ) → all ≡ bytes + here → total ≡ here + more → last ≡ end
         → bits (all + more) ≤ℤ ((most +ℤ pos gain) +ℤ pos later +ℤ bits end) → bits (bytes + total) ≤ℤ (most +ℤ pos (gain + later) +ℤ bits last)
@@ -110,7 +110,7 @@ start : (level : ℤ) (gain most : ℕ) → IsWithin (pos most) (int_min (level 
 start level gain most = record { low = omega (arith, ints, clamps); all = omega (arith, ints) }
 
 -- padding of a span is at most what the padding rate comes to over it, what the window holds, and the last packet
-pub padding-bounded : (before rest : List Entry) (first : Entry) → IsLegal (before ++ first ∷ rest)
+pub padding-bounded : (before rest : List Entry) (first : Entry) → IsAnswered (before ++ first ∷ rest)
     → 8000000 * padding_bytes (sent (first ∷ rest))
     ≤ padding_integral (before ++ first ∷ []) rest + padding_rate before * window before + 8000000 * last_padding (sent (first ∷ rest))
 padding-bounded before rest first legal =
@@ -126,7 +126,7 @@ padding-bounded before rest first legal =
     ended (padding_bytes rs) (padding_bytes (sent rest)) (padding_bytes (rs ++ sent rest)) (padding_integral (before ++ first ∷ []) rest) most
     (last_from (last_from 0 rs) (sent rest)) (last_padding (rs ++ sent rest)) (sum_by-append padding_size rs (sent rest))
     (fold-append (λ l (r : Sent). padding_last_as l r.kind r.size) 0 rs (sent rest))
-    (rest-keeps (before ++ first ∷ []) rest (subst IsLegal (sym (append_assoc before (first ∷ []) rest)) legal) (pos most) (padding_bytes rs) (last_from 0 rs) next)
+    (rest-keeps (before ++ first ∷ []) rest (subst IsAnswered (sym (append_assoc before (first ∷ []) rest)) legal) (pos most) (padding_bytes rs) (last_from 0 rs) next)
   where
     ended : (here more total gained most end last : ℕ) → total ≡ here + more → last ≡ end
         → bits (here + more) ≤ℤ (pos most +ℤ pos gained +ℤ bits end) → 8000000 * total ≤ gained + most + 8000000 * last

@@ -38,9 +38,9 @@ use Rattle.send_core.specs.declared.call.Entry.{Entry}
 use Rattle.send_core.specs.History.{at_of, later, now, accepted, waiting}
 use Rattle.send_core.specs.Settings.{fault_of, started, plans}
 use Rattle.send_core.specs.Reports.{deeds_by, cluster_deeds}
-use Rattle.send_core.specs.Reply.{extension_id, enqueued, reported, configured, standing, terms_at, standing_at, reply_in_time, reply, IsLegal}
+use Rattle.send_core.specs.Reply.{extension_id, enqueued, reported, configured, standing, terms_at, standing_at, reply_in_time, reply, IsAnswered}
 use Rattle.send_laws.specs.Probes.{planned_rate, probe_sizes, probe_moments, before_last, last_of, time_over}
-use Rattle.send_laws.proofs.Sending.{legal-reply}
+use Rattle.send_laws.proofs.Sending.{answered-reply}
 use Rattle.send_laws.proofs.Spanning.{slice_get-longer}
 
 -- ---- lists of sizes and moments
@@ -374,21 +374,21 @@ knows-by id h c known = by_time (nat_lt GREATEST_MOMENT (at_of c))
 pub cluster_deeds-push : (h : List Entry) (e : Entry) → cluster_deeds (h ++ e ∷ []) ≡ cluster_deeds h ++ deeds_by (started h) (cluster_deeds h) e.call e.reply
 cluster_deeds-push h e = walk-push (λ before (ds : List Deed) (x : Entry). ds ++ deeds_by (started before) ds x.call x.reply) [] h e
 
-knows-rest : (id : ℕ) (before rest : List Entry) → IsLegal (before ++ rest) → Knows id (cluster_deeds before) → Knows id (cluster_deeds (before ++ rest))
+knows-rest : (id : ℕ) (before rest : List Entry) → IsAnswered (before ++ rest) → Knows id (cluster_deeds before) → Knows id (cluster_deeds (before ++ rest))
 knows-rest id before [] legal known = subst (λ h. Knows id (cluster_deeds h)) (sym (append-nil before)) known
 knows-rest id before (e ∷ rest) legal known =
     subst (λ h. Knows id (cluster_deeds h)) (append_assoc before (e ∷ []) rest)
-    (knows-rest id (before ++ e ∷ []) rest (subst IsLegal (sym (append_assoc before (e ∷ []) rest)) legal)
-    (subst (Knows id) (sym (cluster_deeds-push before e)) (subst (KnowsAfter id before e.call) (sym (legal-reply before rest e legal)) (knows-by id before e.call known))))
+    (knows-rest id (before ++ e ∷ []) rest (subst IsAnswered (sym (append_assoc before (e ∷ []) rest)) legal)
+    (subst (Knows id) (sym (cluster_deeds-push before e)) (subst (KnowsAfter id before e.call) (sym (answered-reply before rest e legal)) (knows-by id before e.call known))))
 
-all-known : (id : ℕ) (h : List Entry) → IsLegal h → Knows id (cluster_deeds h)
+all-known : (id : ℕ) (h : List Entry) → IsAnswered h → Knows id (cluster_deeds h)
 all-known id h legal = knows-rest id [] h legal (record { no_sizes = refl; no_moments = refl })
 
 -- the packets of a cluster are within its rate
-pub probes-bounded : (h : List Entry) (id rate : ℕ) → IsLegal h → planned_rate id h ≡ Some rate
+pub probes-bounded : (h : List Entry) (id rate : ℕ) → IsAnswered h → planned_rate id h ≡ Some rate
     → 8000000 * before_last (probe_sizes id h) ≤ rate * time_over (probe_moments id h)
 probes-bounded h id rate legal is = subst (IsKnown id (cluster_deeds h)) is (all-known id h legal)
 
 -- a cluster that was not planned has none
-pub probes-planned : (h : List Entry) (id : ℕ) → IsLegal h → planned_rate id h ≡ None → probe_sizes id h ≡ []
+pub probes-planned : (h : List Entry) (id : ℕ) → IsAnswered h → planned_rate id h ≡ None → probe_sizes id h ≡ []
 probes-planned h id legal is = (subst (IsKnown id (cluster_deeds h)) is (all-known id h legal)).no_sizes

@@ -33,11 +33,11 @@ use Rattle.send_core.specs.declared.call.Entry.{Entry}
 use Rattle.send_core.specs.declared.settings.Settings.{Settings}
 use Rattle.send_core.specs.History.{AcceptedPacket, at_of, later, now, accepted, accepted_by, ticket_of, tickets_from, tickets, sent, sent_by, waiting, has_packets}
 use Rattle.send_core.specs.Settings.{fault_of, may_be, has_extension, has_rates, has_bounds, has_pacing, settings, settings_by, start_settings}
-use Rattle.send_core.specs.Reply.{extension_id, enqueued, reported, configured, standing, reply_in_time, reply, IsLegal}
+use Rattle.send_core.specs.Reply.{extension_id, enqueued, reported, configured, standing, reply_in_time, reply, IsAnswered}
 use Rattle.send_core.specs.Wires.{stamped_at, stamped_packet, wire_under, wire_of, wires}
 use Rattle.send_laws.specs.Order.{AreInOrder}
 use Rattle.send_laws.specs.Reading.{IsRead, IsReadPacket, AreRead}
-use Rattle.send_laws.proofs.Sending.{legal-reply}
+use Rattle.send_laws.proofs.Sending.{answered-reply}
 use Rattle.send_laws.proofs.Ordering.{in-order}
 use Rattle.send_laws.proofs.Stamped.{stamped_is_read}
 
@@ -158,21 +158,21 @@ read-push h e is read =
       each = subst (λ k. All (IsReadPacket k) (accepted (h ++ e ∷ []))) (sym id) (subst (All (IsReadPacket (settings_by (settings h) e.call e.reply).extension_id)) (sym all) after.each);
     }
 
-read-rest : (before rest more : List Entry) → AreRead before → IsLegal (before ++ (rest ++ more)) → AreRead (before ++ rest)
+read-rest : (before rest more : List Entry) → AreRead before → IsAnswered (before ++ (rest ++ more)) → AreRead (before ++ rest)
 read-rest before [] more read legal = subst AreRead (sym (append-nil before)) read
 read-rest before (e ∷ rest) more read legal =
     subst AreRead (append_assoc before (e ∷ []) rest)
-    (read-rest (before ++ e ∷ []) rest more (read-push before e (legal-reply before (rest ++ more) e legal) read)
-    (subst IsLegal (sym (append_assoc before (e ∷ []) (rest ++ more))) legal))
+    (read-rest (before ++ e ∷ []) rest more (read-push before e (answered-reply before (rest ++ more) e legal) read)
+    (subst IsAnswered (sym (append_assoc before (e ∷ []) (rest ++ more))) legal))
 
 read-first : AreRead []
 read-first = record { low = omega arith; high = omega arith; each = All-nil (IsReadPacket (extension_id [])) }
 
-read-before : (before rest : List Entry) → IsLegal (before ++ rest) → AreRead before
+read-before : (before rest : List Entry) → IsAnswered (before ++ rest) → AreRead before
 read-before before rest legal = read-rest [] before rest read-first legal
 
-pub all-read : (history : List Entry) → IsLegal history → AreRead history
-all-read history legal = read-before history [] (subst IsLegal (sym (append-nil history)) legal)
+pub all-read : (history : List Entry) → IsAnswered history → AreRead history
+all-read history legal = read-before history [] (subst IsAnswered (sym (append-nil history)) legal)
 
 -- ---- sent packets
 
@@ -230,7 +230,7 @@ wires-read id ps (r ∷ rs) some few is all =
     All-cons (IsRead id) (wire_of id ps r) (map (wire_of id ps) rs) (wire-read id (r.number % 65536) ps r.index some few (All-head (λ (s : Sent). IsIndex (length ps) s.index) r rs is) all)
     (wires-read id ps rs some few (All-tail (λ (s : Sent). IsIndex (length ps) s.index) r rs is) all)
 
-pub sent-read : (before rest : List Entry) (e : Entry) → IsLegal (before ++ e ∷ rest) → All (IsRead (extension_id before)) (wires before e.reply)
+pub sent-read : (before rest : List Entry) (e : Entry) → IsAnswered (before ++ e ∷ rest) → All (IsRead (extension_id before)) (wires before e.reply)
 sent-read before rest e legal =
     let read : AreRead before = read-before before (e ∷ rest) legal in
     let all : 0 + length (accepted before) ≤ length (accepted before) = omega arith in

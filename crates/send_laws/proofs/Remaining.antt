@@ -28,9 +28,9 @@ use Rattle.send_core.specs.declared.call.Entry.{Entry}
 use Rattle.send_core.specs.History.{at_of, later, now, accepted, sent, waiting}
 use Rattle.send_core.specs.Settings.{fault_of}
 use Rattle.send_core.specs.Reports.{outgoing_of, added_of, events_by, events}
-use Rattle.send_core.specs.Reply.{extension_id, enqueued, reported, configured, standing, reply_in_time, reply, IsLegal}
+use Rattle.send_core.specs.Reply.{extension_id, enqueued, reported, configured, standing, reply_in_time, reply, IsAnswered}
 use Rattle.send_laws.specs.Credits.{credits, number_of, credited_numbers, AreByteReports}
-use Rattle.send_laws.proofs.Sending.{legal-reply}
+use Rattle.send_laws.proofs.Sending.{answered-reply}
 use Rattle.send_laws.proofs.Counting.{few-reports, packets-sent, none-twice, balanced}
 
 -- ---- the numbers that a legal history credits
@@ -77,34 +77,34 @@ credits-by h c = by_time (nat_lt GREATEST_MOMENT (at_of c))
     by_time true = nothing (events h)
     by_time false = credits-in_time h (later (now h) c) c
 
-credited-more : (before rest : List Entry) (e : Entry) → IsLegal (before ++ e ∷ rest) → (account (events before)).credited ≡ credited_numbers before
+credited-more : (before rest : List Entry) (e : Entry) → IsAnswered (before ++ e ∷ rest) → (account (events before)).credited ≡ credited_numbers before
     → (account (events (before ++ e ∷ []))).credited ≡ credited_numbers (before ++ e ∷ [])
 credited-more before rest e legal are =
     ap (λ es. (account es).credited) (flat_map-push (λ (x : Entry). events_by x.call x.reply) before e)
-    ∙ (subst (Credits before e.call) (sym (legal-reply before rest e legal)) (credits-by before e.call)
+    ∙ (subst (Credits before e.call) (sym (answered-reply before rest e legal)) (credits-by before e.call)
     ∙ (ap (λ ns. ns ++ map number_of (credits e.reply)) are ∙ sym (flat_map-push (λ (x : Entry). map number_of (credits x.reply)) before e)))
 
-credited-rest : (before rest : List Entry) → IsLegal (before ++ rest) → (account (events before)).credited ≡ credited_numbers before
+credited-rest : (before rest : List Entry) → IsAnswered (before ++ rest) → (account (events before)).credited ≡ credited_numbers before
     → (account (events (before ++ rest))).credited ≡ credited_numbers (before ++ rest)
 credited-rest before [] legal are = subst (λ h. (account (events h)).credited ≡ credited_numbers h) (sym (append-nil before)) are
 credited-rest before (e ∷ rest) legal are =
     subst (λ h. (account (events h)).credited ≡ credited_numbers h) (append_assoc before (e ∷ []) rest)
-    (credited-rest (before ++ e ∷ []) rest (subst IsLegal (sym (append_assoc before (e ∷ []) rest)) legal) (credited-more before rest e legal are))
+    (credited-rest (before ++ e ∷ []) rest (subst IsAnswered (sym (append_assoc before (e ∷ []) rest)) legal) (credited-more before rest e legal are))
 
 none-credited : (account []).credited ≡ []
 unfolding account
 none-credited = refl
 
 -- the replies tell all credits
-pub credited-are : (h : List Entry) → IsLegal h → (account (events h)).credited ≡ credited_numbers h
+pub credited-are : (h : List Entry) → IsAnswered h → (account (events h)).credited ≡ credited_numbers h
 credited-are h legal = credited-rest [] h legal none-credited
 
 -- no number is told twice
-pub told-once : (h : List Entry) → IsLegal h → AreByteReports h → AllPairs (λ (m n : ℕ). m ≢ n) (credited_numbers h)
+pub told-once : (h : List Entry) → IsAnswered h → AreByteReports h → AllPairs (λ (m n : ℕ). m ≢ n) (credited_numbers h)
 told-once h legal bytes = subst (λ (ns : List ℕ). AllPairs (λ (m n : ℕ). m ≢ n) ns) (credited-are h legal) (none-twice h bytes)
 
 -- each packet is told as credited, is outstanding or expired
-pub told-balanced : (h : List Entry) → IsLegal h → AreByteReports h
+pub told-balanced : (h : List Entry) → IsAnswered h → AreByteReports h
     → length (sent h) ≡ length (credited_numbers h) + outstanding (events h) + expired (events h)
 told-balanced h legal bytes = omega (arith, balanced h bytes, ap (length {A = ℕ}) (credited-are h legal))
 
@@ -245,7 +245,7 @@ pub record AreCounts (h : List Entry) (total named kept : ℕ) : Type 0 where
   pub kept_is : outstanding (events h) + kept ≡ min total KEPT_PACKETS
   pub balance : total ≡ named + outstanding (events h) + expired (events h)
 
-pub counts-are : (h : List Entry) (total first named kept : ℕ) → IsLegal h → total ≡ length (sent h) → first ≡ total - KEPT_PACKETS
+pub counts-are : (h : List Entry) (total first named kept : ℕ) → IsAnswered h → total ≡ length (sent h) → first ≡ total - KEPT_PACKETS
     → named ≡ length (credited_numbers h) → kept ≡ count_by (nat_le first) (credited_numbers h) → AreByteReports h → AreCounts h total named kept
 counts-are h total first named kept legal total_is first_is named_is kept_is bytes =
     let numbers : (account (events h)).credited ≡ credited_numbers h = credited-are h legal in

@@ -14,11 +14,11 @@ use Rattle.send_core.specs.declared.call.Entry.{Entry}
 use Rattle.send_core.specs.History.{later, now}
 use Rattle.send_core.specs.Settings.{started}
 use Rattle.send_core.specs.Reports.{deeds_by, cluster_deeds}
-use Rattle.send_core.specs.Reply.{IsLegal}
+use Rattle.send_core.specs.Reply.{IsAnswered}
 use Rattle.send_laws.specs.Moments.{moment_in}
 use Rattle.send_laws.specs.Probes.{probe_moments, last_of}
 use Rattle.send_laws.specs.ProbeSends.{sends_in}
-use Rattle.send_laws.proofs.Sending.{legal-reply}
+use Rattle.send_laws.proofs.Sending.{answered-reply}
 use Rattle.send_laws.proofs.Summing.{later-more, reply-moment}
 use Rattle.send_laws.proofs.Probing.{last_of-push, moments-append, cluster_deeds-push}
 use Rattle.send_laws.proofs.ClusterDeeds.{moments-by}
@@ -64,11 +64,11 @@ sent-at id (Credited moment judged signal m acked rates shares) = All-nil (λ k.
 sent-at id (Configured moment rates shares) = All-nil (λ k. k ≡ moment)
 sent-at id (Refused moment cause) = All-nil (λ k. k ≡ moment)
 
-rises-entry : (id : ℕ) (before rest : List Entry) (e : Entry) → IsLegal (before ++ e ∷ rest) → Rises (now before) (probe_moments id before)
+rises-entry : (id : ℕ) (before rest : List Entry) (e : Entry) → IsAnswered (before ++ e ∷ rest) → Rises (now before) (probe_moments id before)
     → Rises (now (before ++ e ∷ [])) (probe_moments id (before ++ e ∷ []))
 rises-entry id before rest e legal h =
     let next : now (before ++ e ∷ []) ≡ later (now before) e.call = fold-append (λ m (x : Entry). later m x.call) 0 before (e ∷ []) in
-    let moment : moment_in e.reply ≡ later (now before) e.call = ap moment_in (legal-reply before rest e legal) ∙ reply-moment before e.call in
+    let moment : moment_in e.reply ≡ later (now before) e.call = ap moment_in (answered-reply before rest e legal) ∙ reply-moment before e.call in
     let all : probe_moments id (before ++ e ∷ []) ≡ probe_moments id before ++ moments id (sends_in e.reply) =
     ap (moments id) (cluster_deeds-push before e)
     ∙ (moments-append id (cluster_deeds before) (deeds_by (started before) (cluster_deeds before) e.call e.reply)
@@ -78,11 +78,11 @@ rises-entry id before rest e legal h =
     (rises-more (now before) (later (now before) e.call) (probe_moments id before) (moments id (sends_in e.reply)) (later-more (now before) e.call)
     (subst (λ m. All (λ k. k ≡ m) (moments id (sends_in e.reply))) moment (sent-at id e.reply)) h))
 
-rises-rest : (id : ℕ) (before rest : List Entry) → IsLegal (before ++ rest) → Rises (now before) (probe_moments id before) → Rises (now (before ++ rest)) (probe_moments id (before ++ rest))
+rises-rest : (id : ℕ) (before rest : List Entry) → IsAnswered (before ++ rest) → Rises (now before) (probe_moments id before) → Rises (now (before ++ rest)) (probe_moments id (before ++ rest))
 rises-rest id before [] legal h = subst (λ es. Rises (now es) (probe_moments id es)) (sym (append-nil before)) h
 rises-rest id before (e ∷ rest) legal h =
     subst (λ es. Rises (now es) (probe_moments id es)) (append_assoc before (e ∷ []) rest)
-    (rises-rest id (before ++ e ∷ []) rest (subst IsLegal (sym (append_assoc before (e ∷ []) rest)) legal) (rises-entry id before rest e legal h))
+    (rises-rest id (before ++ e ∷ []) rest (subst IsAnswered (sym (append_assoc before (e ∷ []) rest)) legal) (rises-entry id before rest e legal h))
 
-pub probes-rise : (h : List Entry) (id : ℕ) → IsLegal h → slice_index (probe_moments id h) 0 ≤ last_of (probe_moments id h)
+pub probes-rise : (h : List Entry) (id : ℕ) → IsAnswered h → slice_index (probe_moments id h) 0 ≤ last_of (probe_moments id h)
 probes-rise h id legal = (rises-rest id [] h legal (record { order = omega arith; past = omega arith })).order

@@ -17,7 +17,7 @@ use Rattle.send_core.specs.declared.call.Cause.TheVariants as cause
 use Rattle.send_core.specs.declared.call.Entry.{Entry}
 use Rattle.send_core.specs.History.{at_of, later, now, accepted, sent_by, waiting}
 use Rattle.send_core.specs.Settings.{fault_of}
-use Rattle.send_core.specs.Reply.{extension_id, enqueued, reported, configured, standing, terms_at, standing_at, reply_in_time, reply, IsLegal}
+use Rattle.send_core.specs.Reply.{extension_id, enqueued, reported, configured, standing, terms_at, standing_at, reply_in_time, reply, IsAnswered}
 
 -- what holds of no sends and of those of a pace holds of what each call sends
 sends-in_time : (P : List Sent → Type 0) (h : List Entry) (m : ℕ) (c : Call) → P [] → P (paced MOST_SENDS (terms_at h m) (standing_at h m)) → P (sent_by (reply_in_time h m c))
@@ -54,12 +54,12 @@ slice_get-seam : (before : List Entry) (e : Entry) (rest : List Entry) → slice
 slice_get-seam [] e rest = refl
 slice_get-seam (x ∷ xs) e rest = slice_get-seam xs e rest
 
-pub legal-reply : (before rest : List Entry) (e : Entry) → IsLegal (before ++ e ∷ rest) → e.reply ≡ reply before e.call
-legal-reply before rest e legal =
+pub answered-reply : (before rest : List Entry) (e : Entry) → IsAnswered (before ++ e ∷ rest) → e.reply ≡ reply before e.call
+answered-reply before rest e legal =
     subst (λ (t : List Entry). e.reply ≡ reply t e.call) (take-append_seam before (e ∷ rest))
-    (legal.each (length before) e (slice_get-seam before e rest))
+    (legal (length before) e (slice_get-seam before e rest))
 
 -- the same of the entries of a legal history
-pub legal-sends : (P : List Sent → Type 0) (before rest : List Entry) (e : Entry) → IsLegal (before ++ e ∷ rest)
+pub answered-sends : (P : List Sent → Type 0) (before rest : List Entry) (e : Entry) → IsAnswered (before ++ e ∷ rest)
     → P [] → P (paced MOST_SENDS (terms_at before (later (now before) e.call)) (standing_at before (later (now before) e.call))) → P (sent_by e.reply)
-legal-sends P before rest e legal none some = subst (λ r. P (sent_by r)) (sym (legal-reply before rest e legal)) (sends-are P before e.call none some)
+answered-sends P before rest e legal none some = subst (λ r. P (sent_by r)) (sym (answered-reply before rest e legal)) (sends-are P before e.call none some)

@@ -6,7 +6,7 @@ use Rattle.std.proofs.lemmas.Option.{slice_get_within, slice_get_cases, get_or_f
 use Rattle.send_core.specs.declared.call.Entry.{Entry}
 use Rattle.send_core.specs.History.{sent}
 use Rattle.send_core.specs.Levels.{window}
-use Rattle.send_core.specs.Reply.{reply, IsLegal}
+use Rattle.send_core.specs.Reply.{reply, IsAnswered, IsLegal}
 use Rattle.send_laws.specs.Spans.{span}
 use Rattle.send_laws.specs.Budgets.{bytes_of, last_from, rate_of, integral_of}
 use Rattle.send_laws.specs.declared.budget.Budget.{Budget}
@@ -55,45 +55,50 @@ slice_get-longer [] ys n x is = absurd cc
 slice_get-longer (y ∷ xs) ys zero x is = is
 slice_get-longer (y ∷ xs) ys (suc n) x is = slice_get-longer xs ys n x is
 
--- ---- legal histories
+-- ---- answered histories
 
-legal-front : (xs ys : List Entry) → IsLegal (xs ++ ys) → IsLegal xs
-legal-front xs ys legal = record {
-  short = omega (arith, legal.short, length-append xs ys);
-  each = λ n e is. let lt : n < length xs = slice_get_within xs n e is in
-      subst (λ (t : List Entry). e.reply ≡ reply t e.call) (take-append-le n xs ys (omega arith)) (legal.each n e (slice_get-longer xs ys n e is));
+answered-front : (xs ys : List Entry) → IsAnswered (xs ++ ys) → IsAnswered xs
+answered-front xs ys legal = λ n e is.
+    let lt : n < length xs = slice_get_within xs n e is in
+    subst (λ (t : List Entry). e.reply ≡ reply t e.call) (take-append-le n xs ys (omega arith)) (legal n e (slice_get-longer xs ys n e is))
+
+pub answered-take : (k : ℕ) (h : List Entry) → IsAnswered h → IsAnswered (take k h)
+answered-take k h legal = answered-front (take k h) (drop k h) (subst IsAnswered (sym (take-append-drop k h)) legal)
+
+-- of a legal history, which is also short
+pub legal-take : (k : ℕ) (h : List Entry) → IsLegal h → IsLegal (take k h)
+legal-take k h legal = record {
+  short = omega (arith, legal.short, length-append (take k h) (drop k h), ap (length {A = Entry}) (take-append-drop k h));
+  each = answered-take k h legal.each;
 }
 
-pub legal-take : (k : ℕ) (h : List Entry) → IsLegal h → IsLegal (take k h)
-legal-take k h legal = legal-front (take k h) (drop k h) (subst IsLegal (sym (take-append-drop k h)) legal)
-
--- a legal history with one of its entries in the middle
-pub legal-at : (h : List Entry) (k : ℕ) (e : Entry) → slice_get h k ≡ Some e → IsLegal h → IsLegal (take k h ++ e ∷ [])
-legal-at h k e is legal = subst IsLegal (take-next h k e is) (legal-take (k + 1) h legal)
+-- an answered history with one of its entries in the middle
+pub answered-at : (h : List Entry) (k : ℕ) (e : Entry) → slice_get h k ≡ Some e → IsAnswered h → IsAnswered (take k h ++ e ∷ [])
+answered-at h k e is legal = subst IsAnswered (take-next h k e is) (answered-take (k + 1) h legal)
 
 -- ---- bounds
 
-budget-bounded : (b : Budget) (before rest : List Entry) (first : Entry) → IsLegal (before ++ first ∷ rest)
+budget-bounded : (b : Budget) (before rest : List Entry) (first : Entry) → IsAnswered (before ++ first ∷ rest)
     → 8000000 * bytes_of b (sent (first ∷ rest))
     ≤ integral_of b (before ++ first ∷ []) rest + rate_of b before * window before + 8000000 * last_from b 0 (sent (first ∷ rest))
 budget-bounded Media before rest first legal = spent-bounded before rest first legal
 budget-bounded Padding before rest first legal = padding-bounded before rest first legal
 
-bounded-along : (b : Budget) (before rest upto all : List Entry) (first : Entry) → all ≡ first ∷ rest → upto ≡ before ++ first ∷ [] → IsLegal (before ++ all)
+bounded-along : (b : Budget) (before rest upto all : List Entry) (first : Entry) → all ≡ first ∷ rest → upto ≡ before ++ first ∷ [] → IsAnswered (before ++ all)
     → 8000000 * bytes_of b (sent all) ≤ integral_of b upto rest + rate_of b before * window before + 8000000 * last_from b 0 (sent all)
 bounded-along b before rest upto all first is ends legal =
-    rw (is, ends) (budget-bounded b before rest first (subst (λ es. IsLegal (before ++ es)) is legal))
+    rw (is, ends) (budget-bounded b before rest first (subst (λ es. IsAnswered (before ++ es)) is legal))
 
-pub span-bounded : (b : Budget) (h : List Entry) (i j : ℕ) (first : Entry) → slice_get h i ≡ Some first → i ≤ j → j < length h → IsLegal h
+pub span-bounded : (b : Budget) (h : List Entry) (i j : ℕ) (first : Entry) → slice_get h i ≡ Some first → i ≤ j → j < length h → IsAnswered h
     → 8000000 * bytes_of b (sent (span i j h))
     ≤ integral_of b (take (i + 1) h) (span (i + 1) j h) + rate_of b (take i h) * window (take i h) + 8000000 * last_from b 0 (sent (span i j h))
 span-bounded b h i j first is le lt legal =
     bounded-along b (take i h) (span (i + 1) j h) (take (i + 1) h) (span i j h) first
     (between-first h i (j + 1) first (omega arith) (omega arith) is) (take-next h i first is)
-    (subst IsLegal (sym (rejoined h i (j + 1) (omega arith) (omega arith))) (legal-take (j + 1) h legal))
+    (subst IsAnswered (sym (rejoined h i (j + 1) (omega arith) (omega arith))) (answered-take (j + 1) h legal))
 
 -- the same where the first entry is not named
-pub span-bound : (b : Budget) (h : List Entry) (i j : ℕ) → i ≤ j → j < length h → IsLegal h
+pub span-bound : (b : Budget) (h : List Entry) (i j : ℕ) → i ≤ j → j < length h → IsAnswered h
     → 8000000 * bytes_of b (sent (span i j h))
     ≤ integral_of b (take (i + 1) h) (span (i + 1) j h) + rate_of b (take i h) * window (take i h) + 8000000 * last_from b 0 (sent (span i j h))
 span-bound b h i j le lt legal = elim (slice_get_cases h i).1 [

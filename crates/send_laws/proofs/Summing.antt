@@ -26,15 +26,15 @@ use Rattle.send_core.specs.declared.call.Cause.TheVariants as cause
 use Rattle.send_core.specs.declared.call.Entry.{Entry}
 use Rattle.send_core.specs.History.{at_of, later, now, accepted, sent, sent_by, waiting}
 use Rattle.send_core.specs.Settings.{fault_of}
-use Rattle.send_core.specs.Reply.{extension_id, enqueued, reported, configured, standing, terms_at, standing_at, reply_in_time, reply, IsLegal}
+use Rattle.send_core.specs.Reply.{extension_id, enqueued, reported, configured, standing, terms_at, standing_at, reply_in_time, reply, IsAnswered}
 use Rattle.send_laws.specs.Moments.{moment_in}
 use Rattle.send_laws.specs.Budgets.{rate_of, integral_of, IsCount}
 use Rattle.send_laws.specs.declared.budget.Budget.{Budget}
 use Rattle.send_laws.specs.declared.budget.Counted.{Counted}
 use Rattle.send_laws.specs.declared.budget.Budget.TheVariants.{Media, Padding}
 use Rattle.send_laws.proofs.BudgetCounts.{count-none}
-use Rattle.send_laws.proofs.Sending.{legal-reply, legal-sends}
-use Rattle.send_laws.proofs.Spanning.{take-next, rejoined, between-none, between-more, legal-at}
+use Rattle.send_laws.proofs.Sending.{answered-reply, answered-sends}
+use Rattle.send_laws.proofs.Spanning.{take-next, rejoined, between-none, between-more, answered-at}
 
 -- ---- moments
 
@@ -95,16 +95,16 @@ reply-moment h c = by_time (nat_lt GREATEST_MOMENT (at_of c))
     by_time false = in_time-moment h (max (now h) (at_of c)) c
 
 -- the reply of an entry carries its moment
-pub moment-at : (h : List Entry) (k : ℕ) (e : Entry) → slice_get h k ≡ Some e → IsLegal h → moment_in e.reply ≡ now (take (k + 1) h)
+pub moment-at : (h : List Entry) (k : ℕ) (e : Entry) → slice_get h k ≡ Some e → IsAnswered h → moment_in e.reply ≡ now (take (k + 1) h)
 moment-at h k e is legal =
-    ap moment_in (legal-reply (take k h) [] e (legal-at h k e is legal)) ∙ (reply-moment (take k h) e.call ∙ sym (now-next h k e is))
+    ap moment_in (answered-reply (take k h) [] e (answered-at h k e is legal)) ∙ (reply-moment (take k h) e.call ∙ sym (now-next h k e is))
 
 -- ---- bytes
 
-pub few-at : (h : List Entry) (k : ℕ) (e : Entry) → slice_get h k ≡ Some e → IsLegal h → length (sent_by e.reply) ≤ MOST_SENDS
+pub few-at : (h : List Entry) (k : ℕ) (e : Entry) → slice_get h k ≡ Some e → IsAnswered h → length (sent_by e.reply) ≤ MOST_SENDS
 few-at h k e is legal =
     let m : ℕ = later (now (take k h)) e.call in
-    legal-sends (λ rs. length rs ≤ MOST_SENDS) (take k h) [] e (legal-at h k e is legal) (omega arith)
+    answered-sends (λ rs. length rs ≤ MOST_SENDS) (take k h) [] e (answered-at h k e is legal) (omega arith)
     (paced-few MOST_SENDS (terms_at (take k h) m) (standing_at (take k h) m))
 
 -- what was counted from entry i on, before entry k
@@ -115,7 +115,7 @@ pub record IsCounted (b : Budget) (h : List Entry) (i k : ℕ) (c : Counted) : T
 pub counted-none : (b : Budget) (h : List Entry) (i : ℕ) → IsCounted b h i i (record { bytes = 0; since = 0; last = 0 })
 counted-none b h i = record { counts = rw (between-none h i) (count-none b); few = omega arith }
 
-pub counted-more : (b : Budget) (h : List Entry) (i k : ℕ) (c more : Counted) (e : Entry) → i ≤ k → slice_get h k ≡ Some e → IsLegal h → IsCounted b h i k c
+pub counted-more : (b : Budget) (h : List Entry) (i k : ℕ) (c more : Counted) (e : Entry) → i ≤ k → slice_get h k ≡ Some e → IsAnswered h → IsCounted b h i k c
     → ((records : List Sent) → IsCount b records c → IsCount b (records ++ sent_by e.reply) more)
     → more.bytes + more.since ≤ c.bytes + c.since + 2 ^ 32 * length (sent_by e.reply) → IsCounted b h i (k + 1) more
 counted-more b h i k c more e le is legal so_far adds little =

@@ -21,8 +21,8 @@ use Rattle.send_core.specs.declared.settings.TheConstants.{LEAST_WINDOW}
 use Rattle.send_core.specs.History.{at_of, later, now, accepted, waiting}
 use Rattle.send_core.specs.Settings.{start_settings, settings_by, settings, settings_after, passes, has_rates, has_bounds, has_pacing, fault_of, Standing}
 use Rattle.send_core.specs.Levels.{window}
-use Rattle.send_core.specs.Reply.{extension_id, enqueued, reported, configured, standing, reply_in_time, reply, IsLegal}
-use Rattle.send_laws.proofs.Sending.{legal-reply}
+use Rattle.send_core.specs.Reply.{extension_id, enqueued, reported, configured, standing, reply_in_time, reply, IsAnswered}
+use Rattle.send_laws.proofs.Sending.{answered-reply}
 
 both : (a b : Bool) → (a && b) ≡ true → (a ≡ true) × (b ≡ true)
 both true b h = (refl, h)
@@ -83,14 +83,14 @@ reply-window h c was = by_time (nat_lt GREATEST_MOMENT (at_of c))
 window-push : (before : List Entry) (e : Entry) → window (before ++ e ∷ []) ≡ (settings_by (settings before) e.call e.reply).window
 window-push before e = ap (λ (s : Settings). s.window) (fold-append (λ s (x : Entry). settings_by s x.call x.reply) start_settings before (e ∷ []))
 
-rest-window : (before rest : List Entry) → IsLegal (before ++ rest) → window before ≤ GREATEST_WINDOW → window (before ++ rest) ≤ GREATEST_WINDOW
+rest-window : (before rest : List Entry) → IsAnswered (before ++ rest) → window before ≤ GREATEST_WINDOW → window (before ++ rest) ≤ GREATEST_WINDOW
 rest-window before [] legal was = subst (λ h. window h ≤ GREATEST_WINDOW) (sym (append-nil before)) was
 rest-window before (e ∷ rest) legal was =
     subst (λ h. window h ≤ GREATEST_WINDOW) (append_assoc before (e ∷ []) rest)
-    (rest-window (before ++ e ∷ []) rest (subst IsLegal (sym (append_assoc before (e ∷ []) rest)) legal)
+    (rest-window (before ++ e ∷ []) rest (subst IsAnswered (sym (append_assoc before (e ∷ []) rest)) legal)
     (subst (λ n. n ≤ GREATEST_WINDOW)
-    (sym (window-push before e ∙ ap (λ r. (settings_by (settings before) e.call r).window) (legal-reply before rest e legal)))
+    (sym (window-push before e ∙ ap (λ r. (settings_by (settings before) e.call r).window) (answered-reply before rest e legal)))
     (reply-window before e.call was)))
 
-pub window-in_range : (h : List Entry) → IsLegal h → window h ≤ GREATEST_WINDOW
+pub window-in_range : (h : List Entry) → IsAnswered h → window h ≤ GREATEST_WINDOW
 window-in_range h legal = rest-window [] h legal (omega arith)

@@ -83,7 +83,7 @@ reports-bytes bytes trace history is merges =
 -- ---- exact credits
 
 exact : (history : List Entry) → IsLegal history → AreByteReports history → HasExactCredits history
-exact history legal bytes = record { once = told-once history legal bytes; balance = told-balanced history legal bytes }
+exact history legal bytes = record { once = told-once history legal.each bytes; balance = told-balanced history legal.each bytes }
 
 pub replayed-exact : (bytes : List ℕ) (trace : Plain) → IsTrace bytes trace → length trace.lines ≤ MOST_ENTRIES → HasExactCredits (ordered trace.lines)
 replayed-exact bytes trace is few =

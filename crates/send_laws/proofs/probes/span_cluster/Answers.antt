@@ -1,5 +1,5 @@
 use Rattle.std.proofs.Common.{◌-◌, refl, sym, ◌∙◌, subst}
-use Rattle.send_core.specs.Reply.{IsLegal}
+use Rattle.send_core.specs.Reply.{IsAnswered}
 use Rattle.send_laws.proofs.Finding.{none-sent, some-sent, was-planned, first-before, span-within}
 use Rattle.send_laws.proofs.probes.span_cluster.Goals as goal
 
@@ -12,7 +12,7 @@ returns-in_default-clause-none c = (
 pub unreachable-requires : goal.unreachable-requires
 unreachable-requires c =
     was-planned c.args.id c.journal-journal.result.now.items c.sends_for-sends.result c.in-Some.first
-    (subst IsLegal (sym c.journal-journal.ensures.entries) c.journal-journal.ensures.legal) c.sends_for-sends.ensures c.in-Some.is
+    (subst IsAnswered (sym c.journal-journal.ensures.entries) c.journal-journal.ensures.legal.each) c.sends_for-sends.ensures c.in-Some.is
     (sym c.rate_of.ensures ∙ c.in_default-rate_of.is)
 
 pub returns-clause-none : goal.returns-clause-none
@@ -25,9 +25,9 @@ returns-clause-none c = (
 pub returns-clause-bound : goal.returns-clause-bound
 returns-clause-bound c =
     span-within c.args.id c.journal-journal.result.now.items c.args.sender.now c.sends_for-sends.result c.in-Some.first c.in-Some-rate_of.rate (c.sends_for-sends.result.last - c.in-Some.first)
-    c.journal-journal.ensures.entries c.journal-journal.ensures.legal c.sends_for-sends.ensures c.in-Some.is (sym c.rate_of.ensures ∙ c.in-Some-rate_of.is) refl
+    c.journal-journal.ensures.entries c.journal-journal.ensures.legal.each c.sends_for-sends.ensures c.in-Some.is (sym c.rate_of.ensures ∙ c.in-Some-rate_of.is) refl
 
 pub overflow_sub-result : goal.overflow_sub-result
 overflow_sub-result c =
     first-before c.args.id c.journal-journal.result.now.items c.args.sender.now c.sends_for-sends.result c.in-Some.first c.journal-journal.ensures.entries
-    c.journal-journal.ensures.legal c.sends_for-sends.ensures c.in-Some.is
+    c.journal-journal.ensures.legal.each c.sends_for-sends.ensures c.in-Some.is

@@ -12,5 +12,5 @@ returns-clause-bound c =
       c.window_before.ensures,
       c.counted_over-counted.ensures.bytes,
       c.counted_over-counted.ensures.last,
-      span-bound c.args.budget c.args.journal.now.items c.args.i c.args.j c.requires.order c.requires.within c.requires.legal,
+      span-bound c.args.budget c.args.journal.now.items c.args.i c.args.j c.requires.order c.requires.within c.requires.legal.each,
     )

@@ -8,3 +8,4 @@ pub mod Asked
 pub mod Results
 pub mod Limits
 pub mod Behind
+pub mod InForce

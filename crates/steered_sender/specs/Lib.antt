@@ -4,3 +4,4 @@ pub mod Replies
 pub mod Steered
 pub mod Steps
 pub mod Standing
+pub mod Laws

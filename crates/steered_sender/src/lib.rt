@@ -11,6 +11,7 @@
 
 mod choosing;
 mod clustering;
+pub mod laws;
 mod measuring;
 mod serving;
 mod steered;

@@ -20,6 +20,8 @@ mod stop;
 mod telling;
 mod words;
 
+ghost use Rattle.gcc_live.specs.Jobs.{CanBeDone};
+
 use crate::against::replay;
 use crate::levels::run_level;
 use crate::looping::run_loop;
@@ -28,7 +30,8 @@ use crate::stop::Stop;
 use crate::words::{Job, job_of};
 use gcc_units::NoMemory;
 use run_top::Status;
-use std::env;
+use std::alloc::Global;
+use std::env::{self, Args};
 use std::io::{Read, Write};
 use std::process::ExitCode;
 
@@ -38,48 +41,55 @@ const NO_MEMORY: u8 = 6;
 /// The exit code where the arguments can't be read, which is that of no status.
 const NO_ARGUMENTS: u8 = 7;
 
-fn main(rt: HostRuntime) -> ExitCode {
+/// All of standard input.
+fn read_input(rt: &HostRuntime) -> Result<Vec<u8>, Stop> {
+    let mut bytes = Vec::new(rt.alloc());
+    match rt.stdin().read_to_end(&mut bytes) {
+        Ok(_) => Ok(bytes),
+        Err(_) => Err(Stop::Ended(Status::ReadFault)),
+    }
+}
+
+/// What is printed for a job.
+fn text_of(rt: &HostRuntime, job: Job) -> Result<String, Stop>
+    requires { CanBeDone job }
+{
     let alloc = rt.alloc();
+    match job {
+        Job::Made {
+            senders,
+            calls,
+            seed,
+        } => run_made(alloc, senders, calls, seed),
+        Job::Loop(asked) => run_loop(alloc, &asked),
+        Job::Against => replay(alloc, read_input(rt)?.as_slice()),
+        Job::Level => run_level(alloc, read_input(rt)?.as_slice()),
+    }
+}
+
+/// Prints what the job of these arguments says.
+fn run(rt: &HostRuntime, args: Args<Global>) -> Result<(), Stop> {
+    let job = match job_of(rt.alloc(), args) {
+        Err(NoMemory) => return Err(Stop::Ended(Status::NoMemory)),
+        Ok(None) => return Err(Stop::Ended(Status::Usage)),
+        Ok(Some(job)) => job,
+    };
+    let text = text_of(rt, job)?;
+    match rt.stdout().write_all(text.as_bytes()) {
+        Ok(()) => Ok(()),
+        Err(_) => Err(Stop::Ended(Status::WriteFault)),
+    }
+}
+
+fn main(rt: HostRuntime) -> ExitCode {
     let Ok(args) = env::args(&rt) else {
         let _ = rt.stderr().write_all(b"arguments\n");
         return ExitCode::from(NO_ARGUMENTS);
     };
-    let text = match job_of(alloc, args) {
-        Err(NoMemory) => Err(Stop::Ended(Status::NoMemory)),
-        Ok(None) => Err(Stop::Ended(Status::Usage)),
-        Ok(
-            Some(
-                Job::Made {
-                    senders,
-                    calls,
-                    seed,
-                },
-            ),
-        ) => run_made(alloc, senders, calls, seed),
-        Ok(Some(Job::Loop(asked))) => run_loop(alloc, &asked),
-        Ok(Some(Job::Against)) => {
-            let mut bytes = Vec::new(alloc);
-            match rt.stdin().read_to_end(&mut bytes) {
-                Ok(_) => replay(alloc, bytes.as_slice()),
-                Err(_) => Err(Stop::Ended(Status::ReadFault)),
-            }
-        }
-        Ok(Some(Job::Level)) => {
-            let mut bytes = Vec::new(alloc);
-            match rt.stdin().read_to_end(&mut bytes) {
-                Ok(_) => run_level(alloc, bytes.as_slice()),
-                Err(_) => Err(Stop::Ended(Status::ReadFault)),
-            }
-        }
+    let Err(stop) = run(&rt, args) else {
+        return ExitCode::from(0);
     };
-    let stop = match text {
-        Ok(text) => match rt.stdout().write_all(text.as_bytes()) {
-            Ok(()) => return ExitCode::from(0),
-            Err(_) => Stop::Ended(Status::WriteFault),
-        },
-        Err(stop) => stop,
-    };
-    let Ok(line) = stop.text(alloc) else {
+    let Ok(line) = stop.text(rt.alloc()) else {
         let _ = rt.stderr().write_all(b"no memory\n");
         return ExitCode::from(NO_MEMORY);
     };

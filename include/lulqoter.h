@@ -29,7 +29,7 @@ extern "C" {
 #endif
 
 /* What this header was written for; `lulq_abi()` tells what the linked library is. */
-#define LULQ_ABI 2u
+#define LULQ_ABI 3u
 
 /* A handle. Its fields are the library's. */
 typedef struct lulq_sender {
@@ -51,17 +51,22 @@ typedef struct lulq_sender {
 /* Causes. */
 #define LULQ_E_NOT_OPEN (-1)     /* the handle has no sender: it was not begun, or was freed */
 #define LULQ_E_ALREADY_OPEN (-2) /* the handle has a sender already */
-#define LULQ_E_NO_MEMORY (-3)    /* memory ran out; nothing has changed */
-#define LULQ_E_EXHAUSTED (-4)    /* one more call could pass a limit of the sender; nothing has changed */
+#define LULQ_E_NO_MEMORY (-3)    /* memory ran out; the call has changed nothing */
+#define LULQ_E_EXHAUSTED (-4)    /* one more call could pass a limit of the sender; it has changed nothing */
 #define LULQ_E_BAD_CLASS (-5)    /* there is no such class; nothing has changed */
 #define LULQ_E_BAD_SIZE (-6)     /* more than 65,535 bytes, streams or ids; nothing has changed */
 #define LULQ_E_MOMENT (-7)       /* the moment is above 2^50 */
 #define LULQ_E_QUEUE_FULL (-8)   /* as many packets wait as may */
 #define LULQ_E_COMPOUND (-9)     /* the bytes are no packets of RTCP; nothing has changed */
 #define LULQ_E_BAD_MASK (-10)    /* a setting is named that there isn't; nothing has changed */
+#define LULQ_E_BAD_CONTROL (-11) /* there is no such control, or it begins at no such rate; nothing has changed */
 #define LULQ_E_PACKET (-100)     /* less the number of the check that failed: -101 to -105 */
 #define LULQ_E_REPORT (-200)     /* less the number of the check that failed: -201 to -209 */
 #define LULQ_E_SETTINGS (-300)   /* less the number of the check that failed: -301 to -308 */
+
+/* What sets the rate. */
+#define LULQ_CONTROL_LEVEL 0u    /* the level of the one-way delay: keeps queues short */
+#define LULQ_CONTROL_GRADIENT 1u /* the two estimates of draft-ietf-rmcat-gcc-02 */
 
 /* Classes of packets. */
 #define LULQ_AUDIO 0u
@@ -177,9 +182,13 @@ uint32_t lulq_abi(void);
 /* The linked library's version: 100 times the major number, and the minor one. */
 uint32_t lulq_version(void);
 
-/* Puts a new sender into a handle that has none, with the settings of docs/FORMATS.md, at moment 0.
- * 0, ALREADY_OPEN or NO_MEMORY. The handle owns the sender until it is freed. */
-int32_t lulq_sender_new(lulq_sender *sender);
+/* Puts a new sender into a handle that has none, with the settings of docs/FORMATS.md, at moment 0, which a
+ * control steers (LULQ_CONTROL_..; docs/CONGESTION.md compares them). The level control begins at `start`, in
+ * bit/s from 1,000 to 10^10; 0 stands for 300,000. After each report that is judged it sets the start of the
+ * settings, as a change of its own; where memory runs out then, the next call does that first. The gradient
+ * control takes no heed of `start`. LULQ_OK, ALREADY_OPEN, BAD_CONTROL or NO_MEMORY. The handle owns the sender
+ * until it is freed. */
+int32_t lulq_sender_new(lulq_sender *sender, uint32_t control, uint64_t start);
 
 /* Frees the sender of a handle, if there is one. */
 void lulq_sender_free(lulq_sender *sender);
@@ -200,7 +209,8 @@ int32_t lulq_sender_pop(lulq_sender *sender, uint64_t now, uint8_t *room, size_t
 
 /* When to call `lulq_sender_pop` next: LULQ_OK and the moment in `at`, in microseconds, at which it has a
  * packet if no other call comes before; from the moment of the last call to it, it has none. Where
- * packets of the last pace are left it is the moment of the last call: pop at once. LULQ_NOTHING where
+ * packets of the last pace are left, or a change that the control asked for was not made since memory ran out,
+ * it is the moment of the last call: pop at once. LULQ_NOTHING where
  * no moment up to 2^50 has one: a packet, a report or a change must come first. Each other call may
  * change it, so ask again after each. */
 int32_t lulq_sender_next_time(lulq_sender *sender, uint64_t *at);
@@ -257,6 +267,7 @@ static inline const char *lulq_strerror(int32_t result) {
   case LULQ_E_EXHAUSTED: return "a limit of the sender is near";
   case LULQ_E_BAD_CLASS: return "no such class";
   case LULQ_E_BAD_SIZE: return "more than a call takes";
+  case LULQ_E_BAD_CONTROL: return "no such control";
   case LULQ_E_MOMENT: return "the moment is too large";
   case LULQ_E_QUEUE_FULL: return "the queue is full";
   case LULQ_E_COMPOUND: return "no packet of RTCP";

@@ -146,7 +146,7 @@ int main(int argc, char **argv) {
   const int in = bound(&to), out = bound(&from);
   const uint64_t start = now_us();
   uint64_t frame = 0, feedback = FEEDBACK_US, second = 1000000, at = 0;
-  if (lulq_abi() != LULQ_ABI || lulq_sender_new(&sender) != LULQ_OK) return fprintf(stderr, "no sender\n"), 1;
+  if (lulq_abi() != LULQ_ABI || lulq_sender_new(&sender, LULQ_CONTROL_LEVEL, 0) != LULQ_OK) return fprintf(stderr, "no sender\n"), 1;
   while ((at = now_us() - start) < seconds * 1000000) {
     lulq_rates rates;
     lulq_stats stats;

@@ -68,7 +68,7 @@ func main() {
 	came := make(chan int)
 	go receive(in, came)
 	var sender C.lulq_sender // all zero, as LULQ_SENDER_INIT
-	if C.lulq_abi() != C.LULQ_ABI || !must(C.lulq_sender_new(&sender)) {
+	if C.lulq_abi() != C.LULQ_ABI || !must(C.lulq_sender_new(&sender, C.LULQ_CONTROL_LEVEL, 0)) {
 		log.Fatal("no sender")
 	}
 	start, next := time.Now(), time.Duration(0)

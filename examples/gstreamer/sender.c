@@ -48,14 +48,8 @@ static struct sockaddr_in loopback(const char *port) {
   return address;
 }
 
-/* a sender that begins at the start rate, with two probes of more */
-static void begin(lulq_sender *sender) {
-  const lulq_settings settings = {.named = LULQ_SET_START, .start = START_RATE};
-  const lulq_stream none = {0, 1, 0, 0, 0};
-  const uint32_t removed = 0;
-  want(lulq_sender_new(sender), "new");
-  want(lulq_sender_configure(sender, 0, &settings, &none, 0, &removed, 0), "configure");
-}
+/* a sender that the level control steers from the start rate on, with two probes of more */
+static void begin(lulq_sender *sender) { want(lulq_sender_new(sender, LULQ_CONTROL_LEVEL, START_RATE), "new"); }
 
 static int bound(struct sockaddr_in here) {
   const int fd = socket(AF_INET, SOCK_DGRAM, 0);

@@ -84,7 +84,7 @@ static void begin(call *made) {
   const lulq_stream stream = {0, 1, 0, 0, 0};
   const uint32_t removed = 0;
   memset(made, 0, sizeof *made);
-  want(lulq_sender_new(&made->sender) == LULQ_OK, "no sender");
+  want(lulq_sender_new(&made->sender, LULQ_CONTROL_GRADIENT, 0) == LULQ_OK, "no sender");
   want(lulq_sender_configure(&made->sender, 0, &settings, &stream, 0, &removed, 0) == LULQ_OK, "configure");
 }
 

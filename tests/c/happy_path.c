@@ -1,4 +1,4 @@
-/* One packet of video and one of audio are sent, and a report credits both. */
+/* One packet of video and one of audio are sent, and a report credits both; then a sender that the level control steers. */
 #include "lulqoter.h"
 
 #include <stdio.h>
@@ -6,6 +6,34 @@
 
 #define WANT(what) \
   if (!(what)) return printf("line %d: %s\n", __LINE__, #what), 1
+
+/* The level control sets its rate at once, as a start; a first report, whose delay is its base, leaves it; a second one,
+ * 78 ms above that base, cuts it to at most 85 percent. */
+static int level(const uint8_t *packet, size_t packet_size) {
+  static const uint8_t first[24] = {0x8f, 0xcd, 0, 5, 0, 0, 0, 1, 0, 0, 0, 2, 0, 0, 0, 1, 0, 0, 1, 0, 0x20, 1, 4, 0};
+  static const uint8_t second[24] = {0x8f, 0xcd, 0, 5, 0, 0, 0, 1, 0, 0, 0, 2, 0, 1, 0, 1, 0, 0, 3, 1, 0x20, 1, 4, 0};
+  lulq_sender sender = LULQ_SENDER_INIT;
+  uint8_t room[1500];
+  size_t size = 0;
+  uint32_t index = 9, place = 0;
+  uint64_t now = 1000;
+  lulq_info info;
+  lulq_rates rates;
+  lulq_stats stats;
+  WANT(lulq_sender_new(&sender, LULQ_CONTROL_LEVEL, 1000000) == LULQ_OK);
+  WANT(lulq_sender_rates(&sender, &rates) == LULQ_OK && rates.delay == 1000000 && rates.loss == 1000000 && rates.target == 1000000);
+  for (int k = 0; k < 2; k++, now += 50000) {
+    WANT(lulq_sender_enqueue(&sender, now, LULQ_AUDIO, packet, packet_size, &index) == LULQ_OK && index == (uint32_t)k);
+    WANT(lulq_sender_pop(&sender, now, room, sizeof room, &size, &info) == LULQ_OK && info.number == (uint64_t)k);
+    WANT(lulq_sender_pop(&sender, now, room, sizeof room, &size, &info) == LULQ_NOTHING);
+    WANT(lulq_sender_feedback(&sender, now + 20000, k == 0 ? first : second, sizeof first, &place) == LULQ_OK);
+    WANT(lulq_sender_rates(&sender, &rates) == LULQ_OK && rates.target == rates.delay && rates.target == rates.loss);
+    WANT(k == 0 ? rates.target == 1000000 : rates.target <= 850000);
+  }
+  WANT(lulq_sender_stats(&sender, &stats) == LULQ_OK && stats.credited == 2 && stats.judged == 2);
+  lulq_sender_free(&sender);
+  return 0;
+}
 
 int main(void) {
   static const uint8_t video[20] = {0x90, 0x60, 0, 1, 0, 0, 0, 0, 0, 0, 0, 0xaa, 0xbe, 0xde, 0, 1, 0x31, 0, 0, 0};
@@ -20,7 +48,7 @@ int main(void) {
   lulq_queue queue;
   uint64_t next = 0;
   WANT(lulq_abi() == LULQ_ABI);
-  WANT(lulq_sender_new(&sender) == LULQ_OK);
+  WANT(lulq_sender_new(&sender, LULQ_CONTROL_GRADIENT, 0) == LULQ_OK);
   WANT(lulq_sender_enqueue(&sender, 1000, LULQ_VIDEO, video, sizeof video, &index) == LULQ_OK && index == 0);
   WANT(lulq_sender_enqueue(&sender, 1000, LULQ_AUDIO, video, sizeof video, &index) == LULQ_OK && index == 1);
   WANT(lulq_sender_queue(&sender, &queue) == LULQ_OK && queue.packets == 2 && queue.bytes == 40 && queue.oldest == 1000);
@@ -45,5 +73,5 @@ int main(void) {
   WANT(lulq_rtp_place(video, sizeof video, 15, &place) == LULQ_E_SETTINGS - 4);
   lulq_sender_free(&sender);
   WANT(lulq_sender_rates(&sender, &rates) == LULQ_E_NOT_OPEN);
-  return 0;
+  return level(video, sizeof video);
 }

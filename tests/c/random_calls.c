@@ -439,7 +439,11 @@ static void closed(void) {
   memset(&stats, 1, sizeof stats);
   const lulq_stats before = stats;
   if (below(4) == 0) {
-    if (lulq_sender_new(&other) != LULQ_OK || lulq_sender_new(&other) != LULQ_E_ALREADY_OPEN) fail("new");
+    if (lulq_sender_new(&other, LULQ_CONTROL_GRADIENT + 1, 0) != LULQ_E_BAD_CONTROL || lulq_sender_new(&other, LULQ_CONTROL_LEVEL, 999) != LULQ_E_BAD_CONTROL ||
+        lulq_sender_new(&other, LULQ_CONTROL_LEVEL, 10000000001) != LULQ_E_BAD_CONTROL)
+      fail("no such control");
+    const uint32_t control = (uint32_t)below(2);
+    if (lulq_sender_new(&other, control, 0) != LULQ_OK || lulq_sender_new(&other, control, 0) != LULQ_E_ALREADY_OPEN) fail("new");
     if (below(2) && lulq_sender_enqueue(&other, 1, LULQ_VIDEO, bytes, 0, &a) != LULQ_E_PACKET - 1) fail("an empty packet");
   }
   lulq_sender_free(&other);
@@ -453,14 +457,16 @@ static void closed(void) {
 }
 
 int main(int argc, char **argv) {
-  if (argc != 5) fail("usage: random_calls SEED CALLS TRACE TOLD");
+  if (argc != 5 && argc != 6) fail("usage: random_calls SEED CALLS TRACE TOLD [level]");
   state = strtoull(argv[1], NULL, 10);
   const uint64_t calls = strtoull(argv[2], NULL, 10);
   trace = fopen(argv[3], "w");
   told = fopen(argv[4], "w");
   if (!trace || !told) fail("a file can't be written");
   if (lulq_abi() != LULQ_ABI) fail("abi");
-  if (lulq_sender_new(&sender) != LULQ_OK) fail("new");
+  /* what a replay of the trace tells is what the two estimates lead to */
+  const uint32_t control = argc == 6 ? LULQ_CONTROL_LEVEL : LULQ_CONTROL_GRADIENT;
+  if (lulq_sender_new(&sender, control, 0) != LULQ_OK) fail("new");
   fprintf(trace, "gcc-trace 1 1\n");
   for (uint64_t k = 0; k < calls; k++) {
     switch (below(20)) {

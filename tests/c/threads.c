@@ -42,7 +42,7 @@ int main(void) {
   static const uint32_t classes[THREADS] = {LULQ_AUDIO, LULQ_RETRANSMISSION, LULQ_VIDEO, LULQ_FEC};
   pthread_t threads[THREADS];
   lulq_stats stats;
-  if (lulq_sender_new(&sender) != LULQ_OK) return 1;
+  if (lulq_sender_new(&sender, LULQ_CONTROL_GRADIENT, 0) != LULQ_OK) return 1;
   for (int k = 0; k < THREADS; k++)
     if (pthread_create(&threads[k], NULL, work, (void *)&classes[k])) return 1;
   for (int k = 0; k < THREADS; k++)

@@ -13,9 +13,9 @@ pub enum Error {
     NotOpen,
     /// The handle has a sender already.
     AlreadyOpen,
-    /// Memory ran out; nothing has changed.
+    /// Memory ran out; the call has changed nothing.
     NoMemory,
-    /// One more call could pass a limit of the sender; nothing has changed.
+    /// One more call could pass a limit of the sender; it has changed nothing.
     Exhausted,
     /// There is no such class.
     BadClass,
@@ -29,6 +29,8 @@ pub enum Error {
     Compound(u32),
     /// There is no such setting.
     BadMask,
+    /// The control begins at no such rate.
+    BadControl,
     /// The packet fails this check.
     Packet(u32),
     /// The report fails this check.
@@ -59,6 +61,7 @@ impl Error {
             -8 => Error::QueueFull,
             -9 => Error::Compound(place),
             -10 => Error::BadMask,
+            -11 => Error::BadControl,
             -199..=-101 => Error::Packet((-100 - code) as u32),
             -299..=-201 => Error::Report((-200 - code) as u32),
             -399..=-301 => Error::Settings((-300 - code) as u32),
@@ -82,6 +85,7 @@ impl fmt::Display for Error {
             Error::QueueFull => write!(f, "the queue is full"),
             Error::Compound(place) => write!(f, "no packet of RTCP stands at byte {place}"),
             Error::BadMask => write!(f, "no such setting"),
+            Error::BadControl => write!(f, "the control begins at no such rate"),
             Error::Packet(check) => write!(f, "the packet fails check {check}"),
             Error::Report(check) => write!(f, "the report fails check {check}"),
             Error::Settings(check) => write!(f, "the settings fail check {check}"),

@@ -59,7 +59,7 @@ pub struct Share {
 
 extern "C" {
     pub fn lulq_abi() -> u32;
-    pub fn lulq_sender_new(sender: *mut Handle) -> i32;
+    pub fn lulq_sender_new(sender: *mut Handle, control: u32, start: u64) -> i32;
     pub fn lulq_sender_free(sender: *mut Handle);
     pub fn lulq_sender_enqueue(sender: *mut Handle, now: u64, class: u32, packet: *const u8, packet_size: usize, index: *mut u32) -> i32;
     pub fn lulq_sender_pop(sender: *mut Handle, now: u64, room: *mut u8, room_size: usize, size: *mut usize, info: *mut Info) -> i32;

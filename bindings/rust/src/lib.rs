@@ -9,9 +9,32 @@ mod ffi;
 
 pub use error::Error;
 
-const ABI: u32 = 2;
+const ABI: u32 = 3;
 const NONE: u32 = 0xffff_ffff;
 const NO_TIME: u64 = u64::MAX;
+
+/// What sets a sender's rate.
+#[derive(Clone, Copy, PartialEq, Eq, Debug, Default)]
+pub enum Control {
+    /// The level of the one-way delay, which keeps queues short, from the rate on that the library begins at.
+    #[default]
+    Level,
+    /// The same from this rate on, in bit/s from 1,000 to 10^10.
+    LevelFrom(u64),
+    /// The two estimates of draft-ietf-rmcat-gcc-02.
+    Gradient,
+}
+
+impl Control {
+    // Its number, and the rate that it begins at.
+    fn parts(self) -> (u32, u64) {
+        match self {
+            Control::Level => (0, 0),
+            Control::LevelFrom(start) => (0, start),
+            Control::Gradient => (1, 0),
+        }
+    }
+}
 
 /// What a packet carries.
 #[derive(Clone, Copy, PartialEq, Eq, Debug)]
@@ -145,8 +168,13 @@ pub struct Sender {
 unsafe impl Send for Sender {}
 
 impl Sender {
-    /// A sender with the settings that a sender begins with, at moment 0.
+    /// A sender with the settings that a sender begins with, at moment 0, steered by the level control.
     pub fn new() -> Result<Sender, Error> {
+        Sender::with_control(Control::Level)
+    }
+
+    /// A sender with the settings that a sender begins with, at moment 0, steered by this control.
+    pub fn with_control(control: Control) -> Result<Sender, Error> {
         if unsafe { ffi::lulq_abi() } != ABI {
             return Err(Error::WrongLibrary);
         }
@@ -154,7 +182,8 @@ impl Sender {
             live: false,
             at: std::ptr::null_mut(),
         };
-        Error::of(unsafe { ffi::lulq_sender_new(&mut handle) }, 0)?;
+        let (number, start) = control.parts();
+        Error::of(unsafe { ffi::lulq_sender_new(&mut handle, number, start) }, 0)?;
         Ok(Sender { handle })
     }
 

@@ -1,6 +1,6 @@
 //! One happy path, and each kind of refusal.
 
-use lulqoter::{rtp_place, rtp_stamp, Change, Class, Error, Kind, Queue, Sender, Stream, Total};
+use lulqoter::{rtp_place, rtp_stamp, Change, Class, Control, Error, Kind, Queue, Sender, Stream, Total};
 
 const VIDEO: [u8; 20] = [
     0x90, 0x60, 0, 1, 0, 0, 0, 0, 0, 0, 0, 0xaa, 0xbe, 0xde, 0, 1, 0x31, 0, 0, 0,
@@ -12,7 +12,7 @@ const REPORT: [u8; 24] = [
 
 #[test]
 fn packets_leave_stamped_and_are_credited() {
-    let mut sender = Sender::new().unwrap();
+    let mut sender = Sender::with_control(Control::Gradient).unwrap();
     let mut room = [0u8; 1_500];
     assert_eq!(sender.enqueue(1_000, Class::Video, &VIDEO), Ok(0));
     assert_eq!(sender.enqueue(1_000, Class::Audio, &VIDEO), Ok(1));
@@ -52,6 +52,14 @@ fn refusals_have_their_causes() {
     assert_eq!(sender.configure(0, &change), Ok(()));
     assert_eq!(sender.shares(), Ok(vec![(4, 200_000)]));
     assert_eq!(sender.rates().target, 500_000);
+}
+
+#[test]
+fn a_control_begins_at_its_rate() {
+    assert_eq!(Sender::new().unwrap().rates().target, 300_000);
+    assert_eq!(Sender::with_control(Control::LevelFrom(2_000_000)).unwrap().rates().target, 2_000_000);
+    assert_eq!(Sender::with_control(Control::Gradient).unwrap().rates().target, 300_000);
+    assert_eq!(Sender::with_control(Control::LevelFrom(999)).err(), Some(Error::BadControl));
 }
 
 #[test]

@@ -6,6 +6,7 @@ use Rattle.std.specs.Prelude.{IfErr}
 use Rattle.send_core.specs.declared.call.Reply.{Reply}
 use Rattle.send_core.specs.declared.call.Reply.TheVariants.{Accepted, Paced, Credited, Configured, Refused}
 use Rattle.capi.specs.Codes.{unserved_by, IfExhausted}
+use Rattle.capi.specs.Changing.{answer_of}
 use Rattle.capi.specs.Serving.{index_of}
 
 pub exhausted_by : (fault : LiveFault) (P : Type 0) → (fault ≡ live.Exhausted → P) → IfExhausted (unserved_by fault) P
@@ -19,3 +20,10 @@ index_told (Paced moment sent) P = tt
 index_told (Credited moment judged signal m acked rates shares) P = tt
 index_told (Configured moment rates shares) P = tt
 index_told (Refused moment cause) P = tt
+
+pub answer_told : (given : Reply) (P : Type 0) → IfErr (answer_of given) (λ e. IfExhausted e P)
+answer_told (Accepted moment index) P = tt
+answer_told (Paced moment sent) P = tt
+answer_told (Credited moment judged signal m acked rates shares) P = tt
+answer_told (Configured moment rates shares) P = tt
+answer_told (Refused moment cause) P = tt

@@ -1,5 +1,5 @@
 -- Reports that were served one after the other, and one more.
-use Rattle.std.proofs.Common.{◌≡◌, ℕ, zero, suc, ◌≤◌, Option, None, Some, List, [], ◌∷◌, ◌++◌, length, take, drop, refl, sym, ◌∙◌, ap, subst, arith, length-drop}
+use Rattle.std.proofs.Common.{◌≡◌, inl, ℕ, zero, suc, ◌≤◌, Option, None, Some, List, [], ◌∷◌, ◌++◌, length, take, drop, refl, sym, ◌∙◌, ap, subst, arith, length-drop}
 use Rattle.std.proofs.Math.ListN.{drop_of_length-le}
 use Rattle.std.proofs.lemmas.List.{append_assoc, append-nil}
 use Rattle.std.proofs.lemmas.List.Sums.{fold-append}
@@ -9,10 +9,11 @@ use Rattle.send_core.specs.declared.call.Call.TheVariants.{Report}
 use Rattle.send_core.specs.declared.call.Cause.{Cause}
 use Rattle.send_core.specs.declared.call.Entry.{Entry}
 use Rattle.send_core.specs.Reply.{reply}
-use Rattle.live_sender.specs.Live.{Live, StandsFor}
+use Rattle.steered_sender.specs.Standing.{Kept, StandsFor, IsBehind, began_at, served, with_asked}
+use Rattle.steered_sender.proofs.Behind.{IsReady, behind-ready, behind-stays}
 use Rattle.capi.specs.declared.fault.Fault.{Fault}
 use Rattle.capi.specs.declared.feedback.Heard.{Heard}
-use Rattle.capi.specs.Serving.{Serves}
+use Rattle.capi.specs.Serving.{Serving, Stays, with_call}
 use Rattle.capi.specs.Hearing.{refusal_of, first_of, Course, with_report, course_of, AreHeard}
 
 pub drop_all : (n : ℕ) (xs : List ℕ) → length xs ≤ n → [] ≡ drop n xs
@@ -32,48 +33,78 @@ take_within (suc n) (x ∷ xs) = omega (arith, take_within n xs)
 pub part_within : (n m : ℕ) (xs : List ℕ) → length (take n (drop m xs)) ≤ length xs
 part_within n m xs = omega (arith, take_within n (drop m xs), length-drop m xs)
 
+-- before the first
+pub heard-none : (now : Kept) (at : ℕ) → AreHeard now now at (record { refused = None; stopped = None }) []
+heard-none now at = record {
+  served = [];
+  rest = [];
+  whole = refl;
+  all = λ _. refl;
+  control = refl;
+  stands = λ history caller stands. inl stands;
+  refused = λ history caller stands. refl;
+}
+
 -- one more is the last of the course
-pub course-push : (history : List Entry) (caller at : ℕ) (served : List (List ℕ)) (report : List ℕ)
-    → course_of history caller at (served ++ report ∷ []) ≡ with_report caller at (course_of history caller at served) report
-course-push history caller at served report = fold-append (with_report caller at) (record { history = history; refused = None }) served (report ∷ [])
+pub course-push : (control : Option ℕ) (history : List Entry) (caller at : ℕ) (reports : List (List ℕ)) (report : List ℕ)
+    → course_of control history caller at (reports ++ report ∷ []) ≡ with_report control caller at (course_of control history caller at reports) report
+course-push control history caller at reports report = fold-append (with_report control caller at) (record { history = history; refused = None }) reports (report ∷ [])
 
 -- where one was not served, no later one is
-pub heard-stopped : (first now : Live) (at : ℕ) (heard : Heard) (fault : Fault) (reports : List (List ℕ)) (report : List ℕ) → heard.stopped ≡ Some fault
+pub heard-stopped : (first now : Kept) (at : ℕ) (heard : Heard) (fault : Fault) (reports : List (List ℕ)) (report : List ℕ) → heard.stopped ≡ Some fault
     → AreHeard first now at heard reports → AreHeard first now at heard (reports ++ report ∷ [])
 heard-stopped first now at heard fault reports report is h = record {
   served = h.served;
   rest = h.rest ++ report ∷ [];
   whole = ap (λ (xs : List (List ℕ)). xs ++ report ∷ []) h.whole ∙ append_assoc h.served h.rest (report ∷ []);
   all = λ none. absurd (none-some fault (sym none ∙ is));
+  control = h.control;
   stands = h.stands;
   refused = h.refused;
 }
 
-pub heard-fault : (first now : Live) (at : ℕ) (heard : Heard) (fault : Fault) (reports : List (List ℕ)) (report : List ℕ)
-    → AreHeard first now at heard reports → AreHeard first now at (record heard { stopped = Some fault }) (reports ++ report ∷ [])
-heard-fault first now at heard fault reports report h = record {
+pub heard-fault : (first : Kept) (now next : Serving) (at : ℕ) (heard : Heard) (fault : Fault) (reports : List (List ℕ)) (report : List ℕ)
+    → began_at next.steered.steering ≡ began_at now.steered.steering → Stays now next
+    → AreHeard first now.steered at heard reports → AreHeard first next.steered at (record heard { stopped = Some fault }) (reports ++ report ∷ [])
+heard-fault first now next at heard fault reports report same stays h = record {
   served = h.served;
   rest = h.rest ++ report ∷ [];
   whole = ap (λ (xs : List (List ℕ)). xs ++ report ∷ []) h.whole ∙ append_assoc h.served h.rest (report ∷ []);
   all = λ none. absurd (none-some fault (sym none));
-  stands = h.stands;
+  control = same ∙ h.control;
+  stands = λ history caller stands. behind-stays now.steered next.steered (course_of (began_at first.steering) history caller at h.served).history same stays.stands (h.stands history caller stands);
   refused = h.refused;
 }
 
-pub heard-served : (first now next : Live) (at : ℕ) (heard : Heard) (refusal : Option Cause) (reports : List (List ℕ)) (report : List ℕ) → heard.stopped ≡ None
-    → ((history : List Entry) → StandsFor now history → refusal ≡ refusal_of (reply history (Report at (bare report))))
-    → Serves now next (Report at (bare report))
+pub heard-served : (first now next : Kept) (at : ℕ) (heard : Heard) (refusal : Option Cause) (reports : List (List ℕ)) (report : List ℕ) → heard.stopped ≡ None
+    → began_at next.steering ≡ began_at now.steering
+    → ((history : List Entry) → StandsFor now history → refusal ≡ refusal_of (reply (served now history) (Report at (bare report))))
+    → ((history : List Entry) (caller : ℕ) → StandsFor now history → IsBehind next (with_call (served now history) caller (Report at (bare report))))
     → AreHeard first now at heard reports → AreHeard first next at (record heard { refused = first_of heard.refused refusal }) (reports ++ report ∷ [])
-heard-served first now next at heard refusal reports report none told serves h =
+heard-served first now next at heard refusal reports report none same told serves h =
     let whole : reports ≡ h.served = h.whole ∙ (ap (λ (xs : List (List ℕ)). h.served ++ xs) (h.all none) ∙ append-nil h.served) in
     record {
       served = h.served ++ report ∷ [];
       rest = [];
       whole = ap (λ (xs : List (List ℕ)). xs ++ report ∷ []) whole ∙ sym (append-nil (h.served ++ report ∷ []));
       all = λ _. refl;
-      stands = λ history caller stands. subst (λ (c : Course). StandsFor next c.history) (sym (course-push history caller at h.served report))
-          (serves (course_of history caller at h.served).history caller (h.stands history caller stands));
+      control = same ∙ h.control;
+      stands = λ history caller stands.
+          let r : IsReady control now (course history caller).history = ready history caller stands in
+          subst (λ (c : Course). IsBehind next c.history) (sym (course-push control history caller at h.served report))
+          (subst (λ (k : List Entry). IsBehind next (with_call k caller (Report at (bare report)))) r.ready (serves r.before caller r.stands));
       refused = λ history caller stands.
-          (λ i. first_of (h.refused history caller stands i) (told (course_of history caller at h.served).history (h.stands history caller stands) i))
-          ∙ ap (λ (c : Course). c.refused) (sym (course-push history caller at h.served report));
+          let r : IsReady control now (course history caller).history = ready history caller stands in
+          let is : refusal ≡ refusal_of (reply (with_asked control (course history caller).history) (Report at (bare report))) =
+          subst (λ (k : List Entry). refusal ≡ refusal_of (reply k (Report at (bare report)))) r.ready (told r.before r.stands) in
+          (λ i. first_of (h.refused history caller stands i) (is i)) ∙ ap (λ (c : Course). c.refused) (sym (course-push control history caller at h.served report));
     }
+  where
+    control : Option ℕ
+    control = began_at first.steering
+
+    course : List Entry → ℕ → Course
+    course history caller = course_of control history caller at h.served
+
+    ready : (history : List Entry) (caller : ℕ) → StandsFor first history → IsReady control now (course history caller).history
+    ready history caller stands = behind-ready control now (course history caller).history h.control (h.stands history caller stands)

@@ -1,6 +1,6 @@
 -- What is kept of a pace, when one is fetched and when one is served.
 use Rattle.std.specs.Prelude.{Result, Ok, Err, OnOk}
-use Rattle.live_sender.specs.Live.{Live, StandsFor}
+use Rattle.steered_sender.specs.Standing.{Kept, StandsFor, served}
 use Rattle.capi.specs.declared.fault.Fault.{Fault}
 use Rattle.std.proofs.Common.{◌≡◌, ℕ, zero, suc, ◌+◌, ◌≤◌, true, false, Option, None, Some, List, [], ◌∷◌, length, drop, refl, sym, ap, subst}
 use Rattle.std.proofs.lemmas.List.{drop-drop}
@@ -9,7 +9,7 @@ use Rattle.std.specs.List.{slice_get, zip}
 use Rattle.pacer.specs.declared.sent.Sent.{Sent}
 use Rattle.send_core.specs.declared.call.Call.TheVariants.{Pace}
 use Rattle.send_core.specs.declared.call.Entry.{Entry}
-use Rattle.capi.specs.Serving.{Leaving, kept_from, has_any, filled, popped, leaving, with_call, Serves}
+use Rattle.capi.specs.Serving.{IsUser, Leaving, kept_from, has_any, filled, popped, leaving, with_call, Serves}
 
 -- past the records
 pub kept-none : (n : ℕ) (sent : List Sent) (packets : List (List ℕ)) → slice_get sent n ≡ None → kept_from n sent packets ≡ []
@@ -52,25 +52,26 @@ kept-past n sent packets h =
     subst (λ (k : List Leaving). k ≡ drop 1 k) (sym none) refl
 
 -- where something was kept, no pace is served
-pub filled_kept : (history : List Entry) (at : ℕ) (kept : List Leaving) → has_any kept ≡ true → filled history at kept ≡ kept
-filled_kept history at [] h = absurd (let e : false ≡ true = h in cc)
-filled_kept history at (p ∷ ps) h = refl
+pub filled_kept : (now : Kept) (history : List Entry) (at : ℕ) (kept : List Leaving) → has_any kept ≡ true → filled now history at kept ≡ kept
+filled_kept now history at [] h = absurd (let e : false ≡ true = h in cc)
+filled_kept now history at (p ∷ ps) h = refl
 
-pub popped_kept : (history : List Entry) (caller at : ℕ) (kept : List Leaving) → has_any kept ≡ true → popped history caller at kept ≡ history
-popped_kept history caller at [] h = absurd (let e : false ≡ true = h in cc)
-popped_kept history caller at (p ∷ ps) h = refl
+pub popped_kept : (now : Kept) (history : List Entry) (caller at : ℕ) (kept : List Leaving) → has_any kept ≡ true → popped now history caller at kept ≡ history
+popped_kept now history caller at [] h = absurd (let e : false ≡ true = h in cc)
+popped_kept now history caller at (p ∷ ps) h = refl
 
 -- else one is
-pub filled_none : (history : List Entry) (at : ℕ) (kept : List Leaving) → has_any kept ≡ false → filled history at kept ≡ leaving history at
-filled_none history at [] h = refl
-filled_none history at (p ∷ ps) h = absurd (let e : true ≡ false = h in cc)
+pub filled_none : (now : Kept) (history : List Entry) (at : ℕ) (kept : List Leaving) → has_any kept ≡ false → filled now history at kept ≡ leaving (served now history) at
+filled_none now history at [] h = refl
+filled_none now history at (p ∷ ps) h = absurd (let e : true ≡ false = h in cc)
 
-pub popped_none : (history : List Entry) (caller at : ℕ) (kept : List Leaving) → has_any kept ≡ false → popped history caller at kept ≡ with_call history caller (Pace at)
-popped_none history caller at [] h = refl
-popped_none history caller at (p ∷ ps) h = absurd (let e : true ≡ false = h in cc)
+pub popped_none : (now : Kept) (history : List Entry) (caller at : ℕ) (kept : List Leaving) → has_any kept ≡ false
+    → popped now history caller at kept ≡ with_call (served now history) caller (Pace at)
+popped_none now history caller at [] h = refl
+popped_none now history caller at (p ∷ ps) h = absurd (let e : true ≡ false = h in cc)
 
-pub stands-popped : {X : Type 0} (r : Result X Fault) (before after : Live) (at : ℕ) (kept : List Leaving) → has_any kept ≡ false → OnOk r (Serves before after (Pace at))
-    → OnOk r ((history : List Entry) (caller : ℕ) → StandsFor before history → StandsFor after (popped history caller at kept))
+pub stands-popped : {X : Type 0} (r : Result X Fault) (before after : Kept) (at : ℕ) (kept : List Leaving) → has_any kept ≡ false → OnOk r (Serves before after (Pace at))
+    → OnOk r ((history : List Entry) (caller : ℕ) → IsUser caller → StandsFor before history → StandsFor after (popped before history caller at kept))
 stands-popped (Ok x) before after at kept none s =
-    λ history caller stands. subst (λ (h : List Entry). StandsFor after h) (sym (popped_none history caller at kept none)) (s history caller stands)
+    λ history caller user stands. subst (λ (h : List Entry). StandsFor after h) (sym (popped_none before history caller at kept none)) (s history caller user stands)
 stands-popped (Err e) before after at kept none s = tt

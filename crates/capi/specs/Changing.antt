@@ -9,14 +9,15 @@ use Rattle.send_core.specs.declared.call.Entry.{Entry}
 use Rattle.send_core.specs.declared.call.Reply.{Reply}
 use Rattle.send_core.specs.declared.call.Reply.TheVariants.{Refused}
 use Rattle.send_core.specs.Reply.{reply}
-use Rattle.live_sender.specs.Live.{StandsFor, is_exhausted}
+use Rattle.live_sender.specs.Live.{is_exhausted}
+use Rattle.steered_sender.specs.Standing.{StandsFor, served}
 use Rattle.capi.specs.declared.fault.Fault.{Fault}
 use Rattle.capi.specs.declared.fault.Fault.TheVariants as fault
 use Rattle.capi.specs.declared.changing.Settings.{Settings}
 use Rattle.capi.specs.declared.changing.StreamGiven.{StreamGiven}
 use Rattle.capi.specs.declared.changing.TheConstants.{MOST_NAMED}
 use Rattle.capi.specs.Codes.{is_served, IfExhausted}
-use Rattle.capi.specs.Serving.{Serving, Serves}
+use Rattle.capi.specs.Serving.{Serving, Serves, Stays}
 
 -- what the mask names by this bit, a power of two
 abbrev pub named : {X : Type 0} → ℕ → ℕ → X → Option X
@@ -53,11 +54,12 @@ abbrev pub answer_of : Reply → Result (Unit {0}) Fault
 answer_of (Refused moment cause) = Err (fault.Refused cause)
 answer_of given = Ok tt
 
--- A change was asked for. Where the call is no entry of the history, nothing has changed.
+-- A change was asked for. Where the call is no entry of the history, nothing has changed, but that what the control
+-- asked for may have been served.
 pub record Configures (before after : Serving) (at : ℕ) (given : Settings) (streams : List StreamGiven) (removed : List ℕ) (outcome : Result (Unit {0}) Fault) : Type 0 where
   pub mask : MOST_NAMED ≤ given.named → outcome ≡ Err fault.BadMask
-  pub reply : is_served outcome ≡ true → (history : List Entry) → StandsFor before.live history → outcome ≡ answer_of (reply history (asked at given streams removed))
-  pub stands : is_served outcome ≡ true → Serves before.live after.live (asked at given streams removed)
+  pub reply : is_served outcome ≡ true → (history : List Entry) → StandsFor before.steered history → outcome ≡ answer_of (reply (served before.steered history) (asked at given streams removed))
+  pub stands : is_served outcome ≡ true → Serves before.steered after.steered (asked at given streams removed)
   pub kept : after.kept ≡ before.kept
-  pub unserved : is_served outcome ≡ false → after ≡ before
-  pub exhausted : IfErr outcome (λ e. IfExhausted e ((history : List Entry) → StandsFor before.live history → is_exhausted history ≡ true))
+  pub unserved : is_served outcome ≡ false → Stays before after
+  pub exhausted : IfErr outcome (λ e. IfExhausted e ((history : List Entry) → StandsFor before.steered history → is_exhausted history ≡ true))

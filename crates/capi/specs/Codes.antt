@@ -9,7 +9,7 @@ use Rattle.send_core.specs.declared.call.Cause.TheVariants.{MomentTooLarge, Wire
 use Rattle.live_sender.specs.declared.live.LiveFault.{LiveFault}
 use Rattle.live_sender.specs.declared.live.LiveFault.TheVariants as live
 use Rattle.capi.specs.declared.fault.Fault.{Fault}
-use Rattle.capi.specs.declared.fault.Fault.TheVariants.{NotOpen, AlreadyOpen, NoMemory, Exhausted, BadClass, BadSize, BadMask, Compound, Refused}
+use Rattle.capi.specs.declared.fault.Fault.TheVariants.{NotOpen, AlreadyOpen, NoMemory, Exhausted, BadClass, BadSize, BadMask, BadControl, Compound, Refused}
 
 -- a packet that fails a check
 abbrev pub wire_code : WireFault → ℤ
@@ -47,6 +47,7 @@ code_of Exhausted = negsuc 3
 code_of BadClass = negsuc 4
 code_of BadSize = negsuc 5
 code_of BadMask = negsuc 9
+code_of BadControl = negsuc 10
 code_of (Compound place) = negsuc 8
 code_of (Refused cause) = cause_code cause
 

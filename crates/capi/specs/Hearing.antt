@@ -8,13 +8,13 @@ use Rattle.send_core.specs.declared.call.Entry.{Entry}
 use Rattle.send_core.specs.declared.call.Reply.{Reply}
 use Rattle.send_core.specs.declared.call.Reply.TheVariants.{Refused}
 use Rattle.send_core.specs.Reply.{reply}
-use Rattle.live_sender.specs.Live.{Live, StandsFor}
+use Rattle.steered_sender.specs.Standing.{Kept, StandsFor, IsBehind, began_at, with_asked}
 use Rattle.capi.specs.declared.fault.Fault.{Fault}
 use Rattle.capi.specs.declared.fault.Fault.TheVariants.{Compound}
 use Rattle.capi.specs.declared.fault.Fault.TheVariants as fault
 use Rattle.capi.specs.declared.sender.TheConstants.{MOST_BYTES}
 use Rattle.capi.specs.declared.feedback.Heard.{Heard}
-use Rattle.capi.specs.Serving.{Serving, with_call}
+use Rattle.capi.specs.Serving.{Serving, Stays, with_call}
 
 -- why a reply refuses its call, if it does
 abbrev pub refusal_of : Reply → Option Cause
@@ -30,24 +30,26 @@ pub record Course : Type 0 where
   pub history : List Entry
   pub refused : Option Cause
 
-abbrev pub with_report : ℕ → ℕ → Course → List ℕ → Course
-with_report caller at course report = record {
-  history = with_call course.history caller (Report at (bare report));
-  refused = first_of course.refused (refusal_of (reply course.history (Report at (bare report))));
+-- by the rate that the control began at
+abbrev pub with_report : Option ℕ → ℕ → ℕ → Course → List ℕ → Course
+with_report control caller at course report = record {
+  history = with_call (with_asked control course.history) caller (Report at (bare report));
+  refused = first_of course.refused (refusal_of (reply (with_asked control course.history) (Report at (bare report))));
 }
 
--- each of these reports is a call at the end of the history before it
-abbrev pub course_of : List Entry → ℕ → ℕ → List (List ℕ) → Course
-course_of history caller at reports = fold (with_report caller at) (record { history = history; refused = None }) reports
+-- each of these reports is a call at the end of the history before it, behind what the control asked for
+abbrev pub course_of : Option ℕ → List Entry → ℕ → ℕ → List (List ℕ) → Course
+course_of control history caller at reports = fold (with_report control caller at) (record { history = history; refused = None }) reports
 
 -- the reports were served in their order, all of them unless what is told says why it stopped
-pub record AreHeard (first now : Live) (at : ℕ) (heard : Heard) (reports : List (List ℕ)) : Type 0 where
+pub record AreHeard (first now : Kept) (at : ℕ) (heard : Heard) (reports : List (List ℕ)) : Type 0 where
   pub served : List (List ℕ)
   pub rest : List (List ℕ)
   pub whole : reports ≡ served ++ rest
   pub all : heard.stopped ≡ None → rest ≡ []
-  pub stands : (history : List Entry) (caller : ℕ) → StandsFor first history → StandsFor now (course_of history caller at served).history
-  pub refused : (history : List Entry) (caller : ℕ) → StandsFor first history → heard.refused ≡ (course_of history caller at served).refused
+  pub control : began_at now.steering ≡ began_at first.steering
+  pub stands : (history : List Entry) (caller : ℕ) → StandsFor first history → IsBehind now (course_of (began_at first.steering) history caller at served).history
+  pub refused : (history : List Entry) (caller : ℕ) → StandsFor first history → heard.refused ≡ (course_of (began_at first.steering) history caller at served).refused
 
 abbrev pub IfCompound : Fault → (ℕ → Type 0) → Type 0
 IfCompound (Compound place) P = P place
@@ -55,7 +57,7 @@ IfCompound fault P = Unit {0}
 
 -- A compound packet came: each transport-wide report in it is a call. Where it is no compound packet, nothing has changed.
 pub record Hears (before after : Serving) (at : ℕ) (rtcp : List ℕ) (outcome : Result Heard Fault) : Type 0 where
-  pub served : IfOk outcome (λ heard. (packets : List (List ℕ)) × ArePackets packets rtcp × AreHeard before.live after.live at heard (filter is_feedback packets))
+  pub served : IfOk outcome (λ heard. (packets : List (List ℕ)) × ArePackets packets rtcp × AreHeard before.steered after.steered at heard (filter is_feedback packets))
   pub place : IfErr outcome (λ e. IfCompound e (FailsAt rtcp))
   pub unserved : OnErr outcome (after ≡ before)
   pub kept : after.kept ≡ before.kept

@@ -1,5 +1,6 @@
 pub mod Serving
 pub mod Codes
+pub mod Controls
 pub mod Outcomes
 pub mod Hearing
 pub mod Looking

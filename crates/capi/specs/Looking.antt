@@ -19,7 +19,7 @@ use Rattle.send_core.specs.Settings.{settings, streams}
 use Rattle.live_sender.specs.declared.looking.Counters.{Counters}
 use Rattle.live_sender.specs.declared.looking.Queue.{Queue}
 use Rattle.live_sender.specs.declared.sums.Total.{Total}
-use Rattle.live_sender.specs.Live.{StandsFor}
+use Rattle.steered_sender.specs.Standing.{StandsFor, wanted_of}
 use Rattle.live_sender.specs.Sums.{credited, missing, refused, totals_of}
 use Rattle.capi.specs.declared.looking.RatesTold.{RatesTold}
 use Rattle.capi.specs.declared.looking.QueueTold.{QueueTold}
@@ -99,10 +99,11 @@ abbrev pub share_after : List Entry → ℕ → Option ShareTold
 share_after history k = option_map share_told (slice_get (shares (target history) (streams history)) k)
 
 -- When to pop next, from the moment of the last call on: at that moment a pop looks at a packet, and before it at none.
--- Where no moment is told, a pop at none of them does.
+-- Where no moment is told, a pop at none of them does. While a change that the control asked for was not served yet
+-- (memory ran out), a pop may be told to serve it, and look at none.
 pub record IsNextTime (serving : Serving) (told : Option ℕ) : Type 0 where
-  pub from_on : IfSome told (λ m. (history : List Entry) → StandsFor serving.live history → now history ≤ m)
-  pub in_time : IfSome told (λ m. (history : List Entry) → StandsFor serving.live history → m ≤ GREATEST_MOMENT)
-  pub sends : IfSome told (λ m. (history : List Entry) → StandsFor serving.live history → filled history m serving.kept ≢ [])
-  pub none_before : IfSome told (λ m. (history : List Entry) (t : ℕ) → StandsFor serving.live history → now history ≤ t → t < m → filled history t serving.kept ≡ [])
-  pub none : IfNone told ((history : List Entry) (t : ℕ) → StandsFor serving.live history → filled history t serving.kept ≡ [])
+  pub from_on : IfSome told (λ m. (history : List Entry) → StandsFor serving.steered history → now history ≤ m)
+  pub in_time : IfSome told (λ m. (history : List Entry) → StandsFor serving.steered history → m ≤ GREATEST_MOMENT)
+  pub sends : IfSome told (λ m. wanted_of serving.steered.steering ≡ None → (history : List Entry) → StandsFor serving.steered history → filled serving.steered history m serving.kept ≢ [])
+  pub none_before : IfSome told (λ m. (history : List Entry) (t : ℕ) → StandsFor serving.steered history → now history ≤ t → t < m → filled serving.steered history t serving.kept ≡ [])
+  pub none : IfNone told ((history : List Entry) (t : ℕ) → StandsFor serving.steered history → filled serving.steered history t serving.kept ≡ [])

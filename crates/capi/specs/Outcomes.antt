@@ -7,7 +7,8 @@ use Rattle.pacer.specs.declared.sent.Sent.{Sent}
 use Rattle.send_core.specs.declared.call.Call.TheVariants.{Enqueue}
 use Rattle.send_core.specs.declared.call.Entry.{Entry}
 use Rattle.send_core.specs.Reply.{reply}
-use Rattle.live_sender.specs.Live.{StandsFor, is_exhausted}
+use Rattle.live_sender.specs.Live.{is_exhausted}
+use Rattle.steered_sender.specs.Standing.{StandsFor, served}
 use Rattle.gcc_units.specs.declared.limits.TheConstants.{GREATEST_MOMENT}
 use Rattle.send_core.specs.declared.call.Cause.TheVariants as cause
 use Rattle.capi.specs.declared.sender.TheConstants.{MOST_BYTES}
@@ -21,25 +22,26 @@ use Rattle.capi.specs.declared.feedback.Heard.{Heard}
 use Rattle.capi.specs.declared.looking.ShareTold.{ShareTold}
 use Rattle.send_core.specs.declared.call.Cause.{Cause}
 use Rattle.capi.specs.Codes.{code_of, cause_code, is_served, IfExhausted}
-use Rattle.capi.specs.Serving.{Serving, Serves, class_named, index_of, has_any, filled, popped, IsFetched}
+use Rattle.capi.specs.Serving.{Serving, Serves, Stays, class_named, index_of, has_any, filled, popped, IsFetched, IsUser}
 
--- A packet was handed in. Where the call is no entry of the history, nothing has changed.
+-- A packet was handed in. Where the call is no entry of the history, nothing has changed, but that what the control
+-- asked for may have been served.
 pub record Enqueues (before after : Serving) (at number : ℕ) (packet : List ℕ) (outcome : Result ℕ Fault) : Type 0 where
   pub class : class_named number ≡ None → outcome ≡ Err fault.BadClass
-  pub reply : is_served outcome ≡ true → IfSome (class_named number) (λ c. (history : List Entry) → StandsFor before.live history → outcome ≡ index_of (reply history (Enqueue at c (bare packet))))
-  pub stands : is_served outcome ≡ true → IfSome (class_named number) (λ c. Serves before.live after.live (Enqueue at c (bare packet)))
+  pub reply : is_served outcome ≡ true → IfSome (class_named number) (λ c. (history : List Entry) → StandsFor before.steered history → outcome ≡ index_of (reply (served before.steered history) (Enqueue at c (bare packet))))
+  pub stands : is_served outcome ≡ true → IfSome (class_named number) (λ c. Serves before.steered after.steered (Enqueue at c (bare packet)))
   pub kept : after.kept ≡ before.kept
-  pub unserved : is_served outcome ≡ false → after ≡ before
+  pub unserved : is_served outcome ≡ false → Stays before after
   pub size : MOST_BYTES < length packet → IfSome (class_named number) (λ c. outcome ≡ Err fault.BadSize)
-  pub exhausted : IfErr outcome (λ e. IfExhausted e ((history : List Entry) → StandsFor before.live history → is_exhausted history ≡ true))
+  pub exhausted : IfErr outcome (λ e. IfExhausted e ((history : List Entry) → StandsFor before.steered history → is_exhausted history ≡ true))
 
 -- the next packet was asked for, into this room
 pub record Pops (before after : Serving) (at : ℕ) (old new : List ℕ) (outcome : Result Popped Fault) : Type 0 where
-  pub packet : IfOk outcome (λ p. (history : List Entry) → StandsFor before.live history → IsFetched p (filled history at before.kept) after.kept old new)
-  pub stands : OnOk outcome ((history : List Entry) (caller : ℕ) → StandsFor before.live history → StandsFor after.live (popped history caller at before.kept))
-  pub err : OnErr outcome ((after ≡ before) × (new ≡ old))
+  pub packet : IfOk outcome (λ p. (history : List Entry) → StandsFor before.steered history → IsFetched p (filled before.steered history at before.kept) after.kept old new)
+  pub stands : OnOk outcome ((history : List Entry) (caller : ℕ) → IsUser caller → StandsFor before.steered history → StandsFor after.steered (popped before.steered history caller at before.kept))
+  pub err : OnErr outcome (Stays before after × (new ≡ old))
   pub late : has_any before.kept ≡ false → GREATEST_MOMENT < at → outcome ≡ Err (fault.Refused cause.MomentTooLarge)
-  pub exhausted : IfErr outcome (λ e. IfExhausted e ((history : List Entry) → StandsFor before.live history → is_exhausted history ≡ true))
+  pub exhausted : IfErr outcome (λ e. IfExhausted e ((history : List Entry) → StandsFor before.steered history → is_exhausted history ≡ true))
 
 -- ---- the numbers of outcomes, and what is written
 

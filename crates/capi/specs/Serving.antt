@@ -1,5 +1,5 @@
 -- What a sender of the C library stands for.
-use Rattle.std.specs.Prelude.{◌≡◌, ℕ, ◌<◌, length, Option, Result, Ok, Err, Bool, true, false, List, [], ◌∷◌, ◌++◌, drop, zip, slice_get}
+use Rattle.std.specs.Prelude.{◌≡◌, ◌==◌, ◌⊎◌, ℕ, ◌<◌, length, Option, Result, Ok, Err, Bool, true, false, List, [], ◌∷◌, ◌++◌, drop, zip, slice_get}
 use Rattle.gcc_units.specs.declared.class.Class.{Class}
 use Rattle.gcc_units.specs.declared.class.Class.TheVariants as class
 use Rattle.pacer.specs.declared.sent.Sent.{Sent}
@@ -15,15 +15,16 @@ use Rattle.capi.specs.declared.popping.Popped.TheVariants.{Packet, Nothing, TooS
 use Rattle.send_core.specs.History.{entry, sent_by}
 use Rattle.send_core.specs.Reply.{reply}
 use Rattle.send_core.specs.Wires.{wires}
-use Rattle.live_sender.specs.Live.{Live, StandsFor}
+use Rattle.steered_sender.specs.declared.steering.TheConstants.{CONTROL_CALLER}
+use Rattle.steered_sender.specs.Standing.{Kept, StandsFor, served}
 
 -- a packet that left: its record, and its bytes
 abbrev pub Leaving : Type 0
 Leaving = Sent × List ℕ
 
--- the live sender, and the packets of its last pace that were not fetched yet
+-- the sender with its control, and the packets of its last pace that were not fetched yet
 pub record Serving : Type 0 where
-  pub live : Live
+  pub steered : Kept
   pub kept : List Leaving
 
 -- those behind the first so many of the last pace
@@ -34,9 +35,18 @@ kept_from n sent packets = drop n (zip sent packets)
 abbrev pub with_call : List Entry → ℕ → Call → List Entry
 with_call history caller call = history ++ entry caller call (reply history call) ∷ []
 
--- what stood for a history stands for it with this call, whoever made it
-abbrev pub Serves : Live → Live → Call → Type 0
-Serves before after call = (history : List Entry) (caller : ℕ) → StandsFor before history → StandsFor after (with_call history caller call)
+-- a caller that is not the control
+abbrev pub IsUser : ℕ → Type 0
+IsUser caller = (caller == CONTROL_CALLER) ≡ false
+
+-- What stood for a history stands for it with this call, whichever user made it, behind what the control asked for.
+abbrev pub Serves : Kept → Kept → Call → Type 0
+Serves before after call = (history : List Entry) (caller : ℕ) → IsUser caller → StandsFor before history → StandsFor after (with_call (served before history) caller call)
+
+-- Nothing has changed, but that what the control asked for may have been served.
+pub record Stays (before after : Serving) : Type 0 where
+  pub stands : (history : List Entry) → StandsFor before.steered history → StandsFor after.steered history ⊎ StandsFor after.steered (served before.steered history)
+  pub kept : after.kept ≡ before.kept
 
 -- the packets that leave with a pace
 abbrev pub leaving : List Entry → ℕ → List Leaving
@@ -59,14 +69,14 @@ has_any [] = false
 has_any (x ∷ xs) = true
 
 -- what a pop at this moment looks at: what was kept, or else what one pace sends
-abbrev pub filled : List Entry → ℕ → List Leaving → List Leaving
-filled history at [] = leaving history at
-filled history at (p ∷ ps) = p ∷ ps
+abbrev pub filled : Kept → List Entry → ℕ → List Leaving → List Leaving
+filled now history at [] = leaving (served now history) at
+filled now history at (p ∷ ps) = p ∷ ps
 
 -- the history after it
-abbrev pub popped : List Entry → ℕ → ℕ → List Leaving → List Entry
-popped history caller at [] = with_call history caller (Pace at)
-popped history caller at (p ∷ ps) = history
+abbrev pub popped : Kept → List Entry → ℕ → ℕ → List Leaving → List Entry
+popped now history caller at [] = with_call (served now history) caller (Pace at)
+popped now history caller at (p ∷ ps) = history
 
 -- A pop hands out the first packet into the front of the room; or there is none; or the room is smaller than the
 -- first packet, which stays the first.

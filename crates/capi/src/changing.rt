@@ -1,8 +1,15 @@
 //! Changes of the settings as C hands them in.
 
-ghost use Rattle.std.specs.Prelude.{◌≡◌, ◌≤◌, ◌<◌, ◌^◌, ◌==◌, ℕ, List, IfOk, IfErr, OnOk, map, length};
+ghost use Rattle.std.specs.Prelude.{◌≡◌, ◌≤◌, ◌<◌, ◌^◌, ◌==◌, ℕ, true, false, List, IfOk, IfErr, OnOk, map, length};
 ghost use Rattle.gcc_units.specs.Listed.{bare};
 ghost use Rattle.capi.specs.declared.fault.Fault.TheVariants as fault;
+ghost use Rattle.send_core.specs.declared.call.Call.TheVariants as call;
+ghost use Rattle.send_core.specs.declared.call.Entry.{Entry};
+ghost use Rattle.send_core.specs.Reply.{reply};
+ghost use Rattle.live_sender.specs.Live.{is_exhausted};
+ghost use Rattle.steered_sender.specs.Standing.{StandsFor, served};
+ghost use Rattle.capi.specs.Codes.{IfExhausted, is_served};
+ghost use Rattle.capi.specs.Serving.{Serves, Stays};
 ghost use Rattle.capi.specs.Changing.{named, yes_of, stream_of, change_of, answer_of, Configures};
 
 use crate::fault::{Fault, fault_of};
@@ -160,8 +167,24 @@ fn answer_of(reply: &Reply) -> Result<(), Fault>
 }
 
 impl Sender {
+    // A change is served.
+    #[tactic(auto, using(crate::proofs::Causes::exhausted_by, crate::proofs::Causes::answer_told))]
+    fn serve_change(&mut self, alloc: Global, at: u64, change: &Change) -> Result<(), Fault>
+        ensures reply { is_served result ≡ true → (history : List Entry) → StandsFor self.old.steered history → result ≡ answer_of (reply (served self.old.steered history) (call.Configure at change.now)) }
+        ensures stands { is_served result ≡ true → Serves self.old.steered self.new.steered (call.Configure at change.now) }
+        ensures kept { self.new.kept ≡ self.old.kept }
+        ensures unserved { is_served result ≡ false → Stays self.old self.new }
+        ensures exhausted { IfErr result (λ e. IfExhausted e ((history : List Entry) → StandsFor self.old.steered history → is_exhausted history ≡ true)) }
+    {
+        let reply = match self.steered.configure(alloc, at, change) {
+            Ok(reply) => reply,
+            Err(fault) => return Err(fault_of(fault)),
+        };
+        answer_of(&reply)
+    }
+
     /// Settings are changed: those that the mask names, and the streams. Where the call is no entry
-    /// of the history, nothing has changed.
+    /// of the history, nothing has changed, but that what the control asked for may have been served.
     pub fn configure(
         &mut self,
         alloc: Global,
@@ -179,9 +202,6 @@ impl Sender {
             return Err(Fault::BadSize);
         }
         let change = change_of(alloc, settings, streams, removed)?;
-        match self.live.configure(alloc, at, &change) {
-            Ok(reply) => answer_of(&reply),
-            Err(fault) => Err(fault_of(fault)),
-        }
+        self.serve_change(alloc, at, &change)
     }
 }

@@ -25,6 +25,8 @@ pub enum Fault {
     BadSize,
     /// The mask names a setting that there isn't.
     BadMask,
+    /// There is no such control, or it begins at no such rate.
+    BadControl,
     /// From this place on, counted from 0, no packet of RTCP stands; packets stand before it.
     Compound(u32),
     /// The sender refused the call.
@@ -90,6 +92,7 @@ impl Fault {
             Fault::BadClass => -5,
             Fault::BadSize => -6,
             Fault::BadMask => -10,
+            Fault::BadControl => -11,
             Fault::Compound(_) => -9,
             Fault::Refused(cause) => cause_code(*cause),
         }

@@ -6,8 +6,8 @@ ghost use Rattle.rtcp_compound.specs.Compound.{ArePackets, FailsAt, is_feedback,
 ghost use Rattle.send_core.specs.declared.call.Call.TheVariants as call;
 ghost use Rattle.send_core.specs.declared.call.Entry.{Entry};
 ghost use Rattle.send_core.specs.Reply.{reply};
-ghost use Rattle.live_sender.specs.Live.{Live, StandsFor};
-ghost use Rattle.capi.specs.Serving.{Serves};
+ghost use Rattle.steered_sender.specs.Standing.{Kept, StandsFor, IsBehind, began_at, served};
+ghost use Rattle.capi.specs.Serving.{Stays, with_call};
 ghost use Rattle.capi.specs.Hearing.{refusal_of, first_of, AreHeard, IfCompound, Hears};
 
 use crate::fault::{Fault, fault_of};
@@ -15,6 +15,7 @@ use crate::sender::{MOST_BYTES, Sender, copied};
 use rtcp_compound::{Part, PartList, ReadCompound, feedback_parts};
 use send_core::{Cause, Reply};
 use std::alloc::Global;
+use steered_sender::Heard as Steered;
 
 /// What came of the reports of a compound packet.
 #[derive(Clone, Copy, PartialEq, Eq, Debug)]
@@ -90,17 +91,19 @@ fn parts_of(alloc: Global, rtcp: &[u8]) -> Result<PartList, Fault>
 }
 
 impl Sender {
-    // Serves one report, and says why it was refused, if it was. On `Err` nothing has changed.
+    // Serves one report, and says why it was refused, if it was. On `Err` nothing has changed but what the
+    // control asked for.
     fn hear_one(&mut self, alloc: Global, at: u64, report: &[u8]) -> Result<Option<Cause>, Fault>
         requires { length report.now ≤ MOST_BYTES }
-        ensures refusal { IfOk result (λ r. (history : List Entry) → StandsFor self.old.live history → r ≡ refusal_of (reply history (call.Report at (bare report.now)))) }
-        ensures stands { OnOk result (Serves self.old.live self.new.live (call.Report at (bare report.now))) }
+        ensures refusal { IfOk result (λ r. (history : List Entry) → StandsFor self.old.steered history → r ≡ refusal_of (reply (served self.old.steered history) (call.Report at (bare report.now)))) }
+        ensures stands { OnOk result ((history : List Entry) (caller : ℕ) → StandsFor self.old.steered history → IsBehind self.new.steered (with_call (served self.old.steered history) caller (call.Report at (bare report.now)))) }
         ensures kept { self.new.kept ≡ self.old.kept }
-        ensures err { OnErr result (self.new ≡ self.old) }
+        ensures control { began_at self.new.steered.steering ≡ began_at self.old.steered.steering }
+        ensures err { OnErr result (Stays self.old self.new) }
     {
         let bytes = copied(alloc, report)?;
-        match self.live.report(alloc, at, &bytes) {
-            Ok(reply) => Ok(refusal_of(&reply)),
+        match self.steered.report(alloc, at, &bytes) {
+            Ok(Steered { reply, .. }) => Ok(refusal_of(&reply)),
             Err(fault) => Err(fault_of(fault)),
         }
     }
@@ -109,7 +112,7 @@ impl Sender {
     fn hear_next(&mut self, alloc: Global, at: u64, heard: &mut Heard, report: &[u8])
         requires size { length report.now ≤ MOST_BYTES }
         requires going { heard.old.stopped ≡ None }
-        ensures heard { (first : Live) (reports : List (List ℕ)) → AreHeard first self.old.live at heard.old reports → AreHeard first self.new.live at heard.new (reports ++ report.now ∷ []) }
+        ensures heard { (first : Kept) (reports : List (List ℕ)) → AreHeard first self.old.steered at heard.old reports → AreHeard first self.new.steered at heard.new (reports ++ report.now ∷ []) }
         ensures kept { self.new.kept ≡ self.old.kept }
     {
         match self.hear_one(alloc, at, report) {
@@ -121,7 +124,7 @@ impl Sender {
     // Serves one report more, unless an earlier one was not served.
     fn hear(&mut self, alloc: Global, at: u64, heard: &mut Heard, report: &[u8])
         requires { length report.now ≤ MOST_BYTES }
-        ensures heard { (first : Live) (reports : List (List ℕ)) → AreHeard first self.old.live at heard.old reports → AreHeard first self.new.live at heard.new (reports ++ report.now ∷ []) }
+        ensures heard { (first : Kept) (reports : List (List ℕ)) → AreHeard first self.old.steered at heard.old reports → AreHeard first self.new.steered at heard.new (reports ++ report.now ∷ []) }
         ensures kept { self.new.kept ≡ self.old.kept }
     {
         match heard.stopped {
@@ -133,7 +136,7 @@ impl Sender {
     // Serves the reports in their order.
     fn hear_parts(&mut self, alloc: Global, at: u64, rtcp: &[u8], parts: PartList) -> Heard
         requires { length rtcp.now ≤ MOST_BYTES }
-        ensures heard { AreHeard self.old.live self.new.live at result (map (part_of rtcp.now) parts.items) }
+        ensures heard { AreHeard self.old.steered self.new.steered at result (map (part_of rtcp.now) parts.items) }
         ensures kept { self.new.kept ≡ self.old.kept }
     {
         let mut heard = Heard {

@@ -3,6 +3,7 @@
 #![tactic(auto)]
 
 mod changing;
+mod controls;
 mod fault;
 mod feedback;
 mod looking;
@@ -12,6 +13,7 @@ mod stamping;
 mod telling;
 
 pub use changing::{Settings, StreamGiven};
+pub use controls::{START, control_named};
 pub use fault::Fault;
 pub use feedback::Heard;
 pub use looking::{NO_TIME, QueueTold, RatesTold, ShareTold, StatsTold, TotalTold};

@@ -3,7 +3,7 @@
 ghost use Rattle.std.specs.Prelude.{◌≡◌, ℕ, List, IfOk, IfErr};
 ghost use Rattle.std.specs.Option.{option_map};
 ghost use Rattle.send_core.specs.declared.call.Entry.{Entry};
-ghost use Rattle.live_sender.specs.Live.{StandsFor};
+ghost use Rattle.steered_sender.specs.Standing.{StandsFor};
 ghost use Rattle.capi.specs.declared.fault.Fault.TheVariants as fault;
 ghost use Rattle.capi.specs.Looking.{moment_told, rates_told, queue_told, total_told, stats_told, share_told, rates_after, queue_after, stats_after, share_after};
 
@@ -173,31 +173,31 @@ fn share_told(share: Option<Share>) -> Option<ShareTold>
 impl Sender {
     /// The rates after the last call.
     pub fn rates(&self) -> RatesTold
-        ensures { (history : List Entry) → StandsFor self.now.live history → result ≡ rates_after history }
+        ensures { (history : List Entry) → StandsFor self.now.steered history → result ≡ rates_after history }
     {
-        rates_told(self.live.rates())
+        rates_told(self.steered.sender().rates())
     }
 
     /// The packets that wait.
     pub fn queue(&self) -> QueueTold
-        ensures { (history : List Entry) → StandsFor self.now.live history → result ≡ queue_after history }
+        ensures { (history : List Entry) → StandsFor self.now.steered history → result ≡ queue_after history }
     {
-        queue_told(self.live.queue())
+        queue_told(self.steered.sender().queue())
     }
 
     /// How many packets and reports there were.
     pub fn stats(&self) -> StatsTold
-        ensures { (history : List Entry) → StandsFor self.now.live history → result ≡ stats_after history }
+        ensures { (history : List Entry) → StandsFor self.now.steered history → result ≡ stats_after history }
     {
-        stats_told(self.live.counters())
+        stats_told(self.steered.sender().counters())
     }
 
     /// The share of this place, counted from 0 in rising order of the streams' ids, if there is one.
     pub fn share(&self, alloc: Global, k: u32) -> Result<Option<ShareTold>, Fault>
-        ensures share { IfOk result (λ share. (history : List Entry) → StandsFor self.now.live history → share ≡ share_after history k) }
+        ensures share { IfOk result (λ share. (history : List Entry) → StandsFor self.now.steered history → share ≡ share_after history k) }
         ensures err { IfErr result (λ e. e ≡ fault.NoMemory) }
     {
-        let Ok(shares) = self.live.shares(alloc) else {
+        let Ok(shares) = self.steered.sender().shares(alloc) else {
             return Err(Fault::NoMemory);
         };
         Ok(share_told(shares.get(k).copied()))

@@ -4,11 +4,12 @@ ghost use Rattle.std.specs.Prelude.{◌≡◌, ◌<◌, true, false, Err, IfErr,
 ghost use Rattle.send_core.specs.declared.call.Call.TheVariants as call;
 ghost use Rattle.send_core.specs.declared.call.Entry.{Entry};
 ghost use Rattle.send_core.specs.History.{sent_by};
-ghost use Rattle.live_sender.specs.Live.{StandsFor, is_exhausted};
+ghost use Rattle.live_sender.specs.Live.{is_exhausted};
+ghost use Rattle.steered_sender.specs.Standing.{StandsFor, served};
 ghost use Rattle.send_core.specs.declared.call.Cause.TheVariants as cause;
 ghost use Rattle.capi.specs.declared.fault.Fault.TheVariants as fault;
 ghost use Rattle.capi.specs.Codes.{IfExhausted};
-ghost use Rattle.capi.specs.Serving.{Serves, Leaving, IsFetched, has_any, filled, popped, leaving};
+ghost use Rattle.capi.specs.Serving.{Serves, Stays, Leaving, IsFetched, IsUser, has_any, filled, popped, leaving};
 ghost use Rattle.capi.specs.Outcomes.{Pops};
 ghost use Rattle.capi.specs.Looking.{IsNextTime};
 
@@ -71,7 +72,7 @@ impl Sender {
 
     // The next packet counts as fetched.
     fn advance(&mut self)
-        ensures live { self.new.live ≡ self.old.live }
+        ensures steered { self.new.steered ≡ self.old.steered }
         ensures kept { self.new.kept ≡ drop 1 self.old.kept }
     {
         if self.fetched < self.records.len() {
@@ -79,19 +80,19 @@ impl Sender {
         }
     }
 
-    // One pace is served, and its packets are kept. On `Err` nothing has changed.
+    // One pace is served, and its packets are kept. On `Err` nothing has changed but what the control asked for.
     #[tactic(auto, using(crate::proofs::Causes::exhausted_by))]
     fn serve(&mut self, alloc: Global, at: u64) -> Result<(), Fault>
-        ensures kept { OnOk result ((history : List Entry) → StandsFor self.old.live history → self.new.kept ≡ leaving history at) }
-        ensures serves { OnOk result (Serves self.old.live self.new.live (call.Pace at)) }
-        ensures err { OnErr result (self.new ≡ self.old) }
+        ensures kept { OnOk result ((history : List Entry) → StandsFor self.old.steered history → self.new.kept ≡ leaving (served self.old.steered history) at) }
+        ensures serves { OnOk result (Serves self.old.steered self.new.steered (call.Pace at)) }
+        ensures err { OnErr result (Stays self.old self.new) }
         ensures late { GREATEST_MOMENT < at → result ≡ Err (fault.Refused cause.MomentTooLarge) }
-        ensures exhausted { IfErr result (λ e. IfExhausted e ((history : List Entry) → StandsFor self.old.live history → is_exhausted history ≡ true)) }
+        ensures exhausted { IfErr result (λ e. IfExhausted e ((history : List Entry) → StandsFor self.old.steered history → is_exhausted history ≡ true)) }
     {
         if at > GREATEST_MOMENT {
             return Err(Fault::Refused(Cause::MomentTooLarge));
         }
-        match self.live.pace(alloc, at) {
+        match self.steered.pace(alloc, at) {
             Ok(Answer { reply, wires }) => {
                 self.records = records_of(alloc, reply);
                 self.wires = wires;
@@ -102,14 +103,15 @@ impl Sender {
         }
     }
 
-    // Where no packet of the last pace is left, one pace is served. On `Err` nothing has changed.
+    // Where no packet of the last pace is left, one pace is served. On `Err` nothing has changed but what the
+    // control asked for.
     #[tactic(auto, using(crate::proofs::Kept::filled_kept, crate::proofs::Kept::popped_kept, crate::proofs::Kept::filled_none, crate::proofs::Kept::popped_none))]
     fn fill(&mut self, alloc: Global, at: u64) -> Result<(), Fault>
-        ensures kept { OnOk result ((history : List Entry) → StandsFor self.old.live history → self.new.kept ≡ filled history at self.old.kept) }
-        ensures stands { OnOk result ((history : List Entry) (caller : ℕ) → StandsFor self.old.live history → StandsFor self.new.live (popped history caller at self.old.kept)) }
-        ensures err { OnErr result (self.new ≡ self.old) }
+        ensures kept { OnOk result ((history : List Entry) → StandsFor self.old.steered history → self.new.kept ≡ filled self.old.steered history at self.old.kept) }
+        ensures stands { OnOk result ((history : List Entry) (caller : ℕ) → IsUser caller → StandsFor self.old.steered history → StandsFor self.new.steered (popped self.old.steered history caller at self.old.kept)) }
+        ensures err { OnErr result (Stays self.old self.new) }
         ensures late { has_any self.old.kept ≡ false → GREATEST_MOMENT < at → result ≡ Err (fault.Refused cause.MomentTooLarge) }
-        ensures exhausted { IfErr result (λ e. IfExhausted e ((history : List Entry) → StandsFor self.old.live history → is_exhausted history ≡ true)) }
+        ensures exhausted { IfErr result (λ e. IfExhausted e ((history : List Entry) → StandsFor self.old.steered history → is_exhausted history ≡ true)) }
     {
         if self.has_kept() {
             return Ok(());
@@ -119,7 +121,7 @@ impl Sender {
 
     // Hands out the next packet, if there is one and the room is large enough.
     fn fetch(&mut self, room: &mut [u8]) -> Popped
-        ensures live { self.new.live ≡ self.old.live }
+        ensures steered { self.new.steered ≡ self.old.steered }
         ensures packet { IsFetched result self.old.kept self.new.kept room.old room.new }
     {
         let Some((sent, wire)) = self.next() else {
@@ -136,7 +138,8 @@ impl Sender {
 
     /// The next packet that may leave at this moment, put at the front of the room. One pace is
     /// served, and its packets are kept until they are fetched; the next one is served only when
-    /// none is left. On `Err` nothing has changed, and nothing was written.
+    /// none is left. On `Err` nothing has changed, but that what the control asked for may have been
+    /// served, and nothing was written.
     pub fn pop(&mut self, alloc: Global, at: u64, room: &mut [u8]) -> Result<Popped, Fault>
         ensures { Pops self.old self.new at room.old room.new result }
     {
@@ -145,15 +148,16 @@ impl Sender {
     }
 
     /// When to call `pop` next, in microseconds, if no other call comes before it: at the moment of the
-    /// last call where packets of the last pace were not fetched yet, else at the first moment from it
-    /// on at which a pace sends something. `None` where none up to `GREATEST_MOMENT` does.
-    #[tactic(auto, using(crate::proofs::NextTimes::next_kept, crate::proofs::NextTimes::next_paced))]
+    /// last call where packets of the last pace were not fetched yet, or a change that the control asked
+    /// for was not served yet, else at the first moment from it on at which a pace sends something. `None`
+    /// where none up to `GREATEST_MOMENT` does.
+    #[tactic(auto, using(crate::proofs::NextTimes::next_at_once, crate::proofs::NextTimes::next_paced))]
     pub fn next_time(&self) -> Option<Moment>
         ensures { IsNextTime self.now result }
     {
-        if !self.has_kept() {
-            return self.live.next_send();
+        if self.has_kept() || self.steered.is_asked() {
+            return Some(self.steered.sender().moment());
         }
-        Some(self.live.moment())
+        self.steered.sender().next_send()
     }
 }

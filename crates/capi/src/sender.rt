@@ -5,7 +5,7 @@ ghost use Rattle.gcc_units.specs.Listed.{bare};
 ghost use Rattle.send_core.specs.declared.call.Call.TheVariants as call;
 ghost use Rattle.send_core.specs.declared.call.Entry.{Entry};
 ghost use Rattle.send_core.specs.Reply.{reply};
-ghost use Rattle.live_sender.specs.Live.{StandsFor};
+ghost use Rattle.steered_sender.specs.Standing.{IsControl, StandsFor, began_at, first, start_of, wanted_of};
 ghost use Rattle.capi.specs.Codes.{is_served};
 ghost use Rattle.capi.specs.Serving.{class_named, index_of};
 ghost use Rattle.capi.specs.Outcomes.{Enqueues};
@@ -13,20 +13,20 @@ ghost use Rattle.capi.specs.declared.fault.Fault.TheVariants as fault;
 
 use crate::fault::{Fault, fault_of};
 use gcc_units::{Bytes, Class};
-use live_sender::LiveSender;
 use pacer::SentList;
 use rtp_wire::WireList;
 use send_core::Reply;
 use std::alloc::Global;
 use std::marker::Model;
+use steered_sender::{Control, SteeredSender};
 
 /// The greatest number of bytes that a call takes: no UDP packet has more.
 pub const MOST_BYTES: usize = 65_535;
 
-/// A live sender, and the packets of its last pace that were not fetched yet.
+/// A sender with its control, and the packets of its last pace that were not fetched yet.
 #[derive(Drop)]
 pub struct Sender {
-    pub(crate) live: LiveSender,
+    pub(crate) steered: SteeredSender,
     pub(crate) records: SentList,
     pub(crate) wires: WireList,
     pub(crate) fetched: u32,
@@ -37,7 +37,7 @@ impl Model for Sender {
 
     ghost Value = { Serving };
 
-    ghost view = { λ s. record { live = s.live; kept = kept_from s.fetched s.records.items s.wires.items } };
+    ghost view = { λ s. record { steered = s.steered; kept = kept_from s.fetched s.records.items s.wires.items } };
 }
 
 /// The class of this number: 0 audio, 1 retransmission, 2 video, 3 forward error correction.
@@ -77,17 +77,19 @@ fn index_of(reply: &Reply) -> Result<u32, Fault>
 }
 
 impl Sender {
-    /// A sender with the settings that a sender begins with, at moment 0.
-    pub fn new(alloc: Global) -> Result<Sender, Fault>
-        ensures stands { IfOk result (λ s. StandsFor s.live []) }
+    /// A sender with the settings that a sender begins with, at moment 0, steered by this control.
+    pub fn new(alloc: Global, control: Control) -> Result<Sender, Fault>
+        requires { IsControl control }
+        ensures stands { IfOk result (λ s. StandsFor s.steered (first control)) }
+        ensures control { IfOk result (λ s. began_at s.steered.steering ≡ start_of control) }
         ensures kept { IfOk result (λ s. s.kept ≡ []) }
         ensures err { IfErr result (λ e. e ≡ fault.NoMemory) }
     {
-        let Ok(live) = LiveSender::new(alloc) else {
+        let Ok(steered) = SteeredSender::new(alloc, control) else {
             return Err(Fault::NoMemory);
         };
         Ok(Sender {
-            live,
+            steered,
             records: SentList::new(alloc),
             wires: WireList::new(alloc),
             fetched: 0,
@@ -96,7 +98,7 @@ impl Sender {
 
     /// A packet is to be sent: plain RTP with room for the transport-wide number; it is copied. Its
     /// index, or why it is not among the accepted ones. Where the call is no entry of the history,
-    /// nothing has changed.
+    /// nothing has changed, but that what the control asked for may have been served.
     #[tactic(auto, using(crate::proofs::Causes::exhausted_by, crate::proofs::Causes::index_told))]
     pub fn enqueue(
         &mut self,
@@ -114,7 +116,7 @@ impl Sender {
             return Err(Fault::BadSize);
         }
         let wire = copied(alloc, packet)?;
-        let reply = match self.live.enqueue(at, class, wire) {
+        let reply = match self.steered.enqueue(alloc, at, class, wire) {
             Ok(reply) => reply,
             Err((fault, _wire)) => return Err(fault_of(fault)),
         };

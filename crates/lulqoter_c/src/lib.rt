@@ -3,7 +3,7 @@
 #![tactic(auto)]
 
 ghost use Rattle.std.specs.Prelude.{◌≡◌, ℕ, ◌≢◌, ◌⊎◌, pos, negsuc, Option, Some, None, Result, IfOk, IfErr, IfSome, MatchOption, List, []};
-ghost use Rattle.live_sender.specs.Live.{StandsFor};
+ghost use Rattle.steered_sender.specs.Standing.{IsControl, StandsFor};
 ghost use Rattle.capi.specs.declared.fault.Fault.{Fault};
 ghost use Rattle.capi.specs.declared.popping.Popped.{Popped};
 ghost use Rattle.capi.specs.declared.fault.Fault.TheVariants as fault;
@@ -11,27 +11,30 @@ ghost use Rattle.capi.specs.declared.feedback.Heard.{Heard};
 ghost use Rattle.capi.specs.declared.looking.ShareTold.{ShareTold};
 ghost use Rattle.send_core.specs.declared.call.Entry.{Entry};
 ghost use Rattle.capi.specs.Changing.{Configures};
+ghost use Rattle.capi.specs.Controls.{control_named};
 ghost use Rattle.capi.specs.Hearing.{Hears};
 ghost use Rattle.capi.specs.Looking.{IsNextTime, rates_after, queue_after, stats_after, share_after};
 ghost use Rattle.capi.specs.Outcomes.{Enqueues, Pops, code_in, told_in, popped_code, size_in, info_in, heard_code, place_in, share_code, share_in, moment_code, moment_in};
 ghost use Rattle.capi.specs.Stamping.{Places, Stamps};
-ghost use Rattle.lulqoter_c.specs.Holds.{HoldsOne};
+ghost use Rattle.lulqoter_c.specs.Holds.{HoldsOne, IsNew};
 
 mod handle;
 
 use capi::{
     Fault, Info, QueueTold, RatesTold, Sender, Settings, ShareTold, StatsTold, StreamGiven,
-    place_in, stamp, tell_done, tell_heard, tell_index, tell_moment, tell_popped, tell_share,
+    control_named, place_in, stamp, tell_done, tell_heard, tell_index, tell_moment, tell_popped,
+    tell_share,
 };
 use handle::Handle;
 use std::alloc::Global;
 use std::mem::replace;
+use steered_sender::Control;
 
 /// What a header must have been written for: the number of this interface.
-const ABI: u32 = 2;
+const ABI: u32 = 3;
 
 /// The version: 100 times the major number, and the minor one.
-const VERSION: u32 = 3;
+const VERSION: u32 = 4;
 
 // Takes the sender out of a handle, if there is one.
 fn take(alloc: Global, sender: &mut Handle) -> Option<Box<Sender>>
@@ -42,30 +45,42 @@ fn take(alloc: Global, sender: &mut Handle) -> Option<Box<Sender>>
 }
 
 // A new sender on the heap.
-fn boxed(alloc: Global) -> Result<Box<Sender>, Fault>
-    ensures new { IfOk result (λ b. StandsFor b.value.live [] × (b.value.kept ≡ [])) }
+fn boxed(alloc: Global, control: Control) -> Result<Box<Sender>, Fault>
+    requires { IsControl control }
+    ensures new { IfOk result (λ b. IsNew b.value control) }
     ensures err { IfErr result (λ e. e ≡ fault.NoMemory) }
 {
-    match Box::new(alloc, Sender::new(alloc)?) {
+    match Box::new(alloc, Sender::new(alloc, control)?) {
         Ok(held) => Ok(held),
         Err(_) => Err(Fault::NoMemory),
     }
 }
 
-/// Puts a new sender into a handle that has none: 0, or -2 where it has one, or -3 where memory ran
-/// out. Where it is not 0 nothing has changed.
+/// Puts a new sender into a handle that has none, which the control of this number steers: 0 the level
+/// of the one-way delay, which begins at this rate in bit/s, or at 300,000 where it is 0; 1 the two
+/// estimates of the draft, which take no heed of the rate. 0, or -2 where the handle has a sender, -11
+/// where there is no such control or rate, or -3 where memory ran out. Where it is not 0 nothing has
+/// changed.
 #[unsafe(no_mangle)]
-pub extern "C" fn lulq_sender_new(alloc: Global, sender: &mut Handle) -> i32
+pub extern "C" fn lulq_sender_new(
+    alloc: Global,
+    sender: &mut Handle,
+    control: u32,
+    start: u64,
+) -> i32
     ensures open { IfSome sender.old.held (λ s. (result ≡ negsuc 1) × (sender.new.held ≡ Some s)) }
-    ensures closed { sender.old.held ≡ None → (result ≡ pos 0) ⊎ (result ≡ negsuc 2) }
-    ensures new { result ≡ pos 0 → HoldsOne sender.new.held (λ s. StandsFor s.live [] × (s.kept ≡ [])) }
+    ensures closed { sender.old.held ≡ None → MatchOption (control_named control start) (result ≡ negsuc 10) (λ c. (result ≡ pos 0) ⊎ (result ≡ negsuc 2)) }
+    ensures new { result ≡ pos 0 → IfSome (control_named control start) (λ c. HoldsOne sender.new.held (λ s. IsNew s c)) }
     ensures err { result ≢ pos 0 → sender.new.held ≡ sender.old.held }
 {
     if let Some(held) = take(alloc, sender) {
         *sender = Handle::of(held);
         return Fault::AlreadyOpen.code();
     }
-    match boxed(alloc) {
+    let Some(control) = control_named(control, start) else {
+        return Fault::BadControl.code();
+    };
+    match boxed(alloc, control) {
         Ok(held) => {
             *sender = Handle::of(held);
             0
@@ -194,7 +209,7 @@ pub extern "C" fn lulq_sender_rates(
 ) -> i32
     ensures stays { sender.new.held ≡ sender.old.held }
     ensures closed { sender.old.held ≡ None → (result ≡ negsuc 0) × (rates.new ≡ rates.old) }
-    ensures told { IfSome sender.old.held (λ s. (result ≡ pos 0) × ((history : List Entry) → StandsFor s.live history → rates.new ≡ rates_after history)) }
+    ensures told { IfSome sender.old.held (λ s. (result ≡ pos 0) × ((history : List Entry) → StandsFor s.steered history → rates.new ≡ rates_after history)) }
 {
     let Some(held) = take(alloc, sender) else {
         return Fault::NotOpen.code();
@@ -213,7 +228,7 @@ pub extern "C" fn lulq_sender_queue(
 ) -> i32
     ensures stays { sender.new.held ≡ sender.old.held }
     ensures closed { sender.old.held ≡ None → (result ≡ negsuc 0) × (queue.new ≡ queue.old) }
-    ensures told { IfSome sender.old.held (λ s. (result ≡ pos 0) × ((history : List Entry) → StandsFor s.live history → queue.new ≡ queue_after history)) }
+    ensures told { IfSome sender.old.held (λ s. (result ≡ pos 0) × ((history : List Entry) → StandsFor s.steered history → queue.new ≡ queue_after history)) }
 {
     let Some(held) = take(alloc, sender) else {
         return Fault::NotOpen.code();
@@ -232,7 +247,7 @@ pub extern "C" fn lulq_sender_stats(
 ) -> i32
     ensures stays { sender.new.held ≡ sender.old.held }
     ensures closed { sender.old.held ≡ None → (result ≡ negsuc 0) × (stats.new ≡ stats.old) }
-    ensures told { IfSome sender.old.held (λ s. (result ≡ pos 0) × ((history : List Entry) → StandsFor s.live history → stats.new ≡ stats_after history)) }
+    ensures told { IfSome sender.old.held (λ s. (result ≡ pos 0) × ((history : List Entry) → StandsFor s.steered history → stats.new ≡ stats_after history)) }
 {
     let Some(held) = take(alloc, sender) else {
         return Fault::NotOpen.code();
@@ -253,7 +268,7 @@ pub extern "C" fn lulq_sender_share(
 ) -> i32
     ensures stays { sender.new.held ≡ sender.old.held }
     ensures closed { sender.old.held ≡ None → (result ≡ negsuc 0) × (share.new ≡ share.old) }
-    ensures told { IfSome sender.old.held (λ s. (outcome : Result (Option ShareTold) Fault) × IfOk outcome (λ told. (history : List Entry) → StandsFor s.live history → told ≡ share_after history k) × (result ≡ share_code outcome) × (share.new ≡ share_in share.old outcome)) }
+    ensures told { IfSome sender.old.held (λ s. (outcome : Result (Option ShareTold) Fault) × IfOk outcome (λ told. (history : List Entry) → StandsFor s.steered history → told ≡ share_after history k) × (result ≡ share_code outcome) × (share.new ≡ share_in share.old outcome)) }
 {
     let Some(held) = take(alloc, sender) else {
         return Fault::NotOpen.code();

@@ -7,11 +7,11 @@
 #define WANT(what) \
   if (!(what)) return printf("line %d: %s\n", __LINE__, #what), 1
 
-/* The level control sets its rate at once, as a start; a first report, whose delay is its base, leaves it; a second one,
- * 78 ms above that base, cuts it to at most 85 percent. */
+/* The level control sets its rate at once, as a start, whose probes leave behind the first packet; a first report, whose
+ * delay is its base, leaves the rate; a second one, 78 ms above that base, cuts it to at most 85 percent. */
 static int level(const uint8_t *packet, size_t packet_size) {
-  static const uint8_t first[24] = {0x8f, 0xcd, 0, 5, 0, 0, 0, 1, 0, 0, 0, 2, 0, 0, 0, 1, 0, 0, 1, 0, 0x20, 1, 4, 0};
-  static const uint8_t second[24] = {0x8f, 0xcd, 0, 5, 0, 0, 0, 1, 0, 0, 0, 2, 0, 1, 0, 1, 0, 0, 3, 1, 0x20, 1, 4, 0};
+  static const uint8_t times[2] = {1, 3}; /* of 64 ms */
+  uint8_t report[24] = {0x8f, 0xcd, 0, 5, 0, 0, 0, 1, 0, 0, 0, 2, 0, 0, 0, 1, 0, 0, 0, 0, 0x20, 1, 4, 0};
   lulq_sender sender = LULQ_SENDER_INIT;
   uint8_t room[1500];
   size_t size = 0;
@@ -24,9 +24,13 @@ static int level(const uint8_t *packet, size_t packet_size) {
   WANT(lulq_sender_rates(&sender, &rates) == LULQ_OK && rates.delay == 1000000 && rates.loss == 1000000 && rates.target == 1000000);
   for (int k = 0; k < 2; k++, now += 50000) {
     WANT(lulq_sender_enqueue(&sender, now, LULQ_AUDIO, packet, packet_size, &index) == LULQ_OK && index == (uint32_t)k);
-    WANT(lulq_sender_pop(&sender, now, room, sizeof room, &size, &info) == LULQ_OK && info.number == (uint64_t)k);
-    WANT(lulq_sender_pop(&sender, now, room, sizeof room, &size, &info) == LULQ_NOTHING);
-    WANT(lulq_sender_feedback(&sender, now + 20000, k == 0 ? first : second, sizeof first, &place) == LULQ_OK);
+    WANT(lulq_sender_pop(&sender, now, room, sizeof room, &size, &info) == LULQ_OK && info.kind == LULQ_KIND_AUDIO && info.number < 256);
+    report[13] = (uint8_t)info.number, report[18] = times[k], report[19] = (uint8_t)k;
+    for (int32_t told = LULQ_OK; told != LULQ_NOTHING;) {
+      told = lulq_sender_pop(&sender, now, room, sizeof room, &size, &info);
+      WANT(told == LULQ_NOTHING || (told == LULQ_OK && info.kind == LULQ_KIND_PROBE));
+    }
+    WANT(lulq_sender_feedback(&sender, now + 20000, report, sizeof report, &place) == LULQ_OK);
     WANT(lulq_sender_rates(&sender, &rates) == LULQ_OK && rates.target == rates.delay && rates.target == rates.loss);
     WANT(k == 0 ? rates.target == 1000000 : rates.target <= 850000);
   }

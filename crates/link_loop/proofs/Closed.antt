@@ -7,7 +7,7 @@ use Rattle.std.proofs.lemmas.List.Sums.{fold-append}
 use Rattle.gcc_units.specs.declared.class.Class.TheVariants.{Audio, Video}
 use Rattle.gcc_units.specs.declared.limits.TheConstants.{GREATEST_MOMENT, MOST_SENDS}
 use Rattle.gcc_units.specs.Listed.{bare}
-use Rattle.gcc_units.specs.Walk.{flat_map-push}
+use Rattle.gcc_units.proofs.Walk.{flat_map-push}
 use Rattle.twcc_report.specs.Spelling.{Feedback}
 use Rattle.twcc_report.specs.Canonical.{canonical}
 use Rattle.pacer.specs.declared.sent.Sent.{Sent}

@@ -6,7 +6,7 @@ use Rattle.std.proofs.lemmas.Bool.{le-ltb}
 use Rattle.std.proofs.lemmas.List.{map-append}
 use Rattle.std.proofs.lemmas.List.Elements.{All-nil}
 use Rattle.gcc_units.specs.Listed.{Listed, bare}
-use Rattle.gcc_units.specs.Walk.{flat_map-push}
+use Rattle.gcc_units.proofs.Walk.{flat_map-push}
 use Rattle.gcc_units.specs.declared.limits.TheConstants.{GREATEST_MOMENT, KEPT_PACKETS, MOST_WAITING}
 use Rattle.gcc_units.specs.declared.shared_types.Credit.{Credit}
 use Rattle.rtp_wire.specs.declared.packet.WireFault.{WireFault}

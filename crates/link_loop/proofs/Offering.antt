@@ -4,7 +4,7 @@ use Rattle.std.specs.List.{filter}
 use Rattle.std.proofs.lemmas.Bool.Decides.{nat_tests}
 use Rattle.std.proofs.lemmas.List.{map-append}
 use Rattle.gcc_units.specs.Listed.{Listed, bare}
-use Rattle.gcc_units.specs.Walk.{flat_each-push}
+use Rattle.gcc_units.proofs.Walk.{flat_each-push}
 use Rattle.pacer.specs.declared.sent.Sent.{Sent}
 use Rattle.send_core.specs.History.{sent}
 use Rattle.call_trace.specs.Making.{moment}

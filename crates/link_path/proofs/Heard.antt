@@ -1,7 +1,7 @@
 -- What one more packet adds to what the receiver tells.
 use Rattle.std.proofs.Common.{◌≡◌, ℕ, suc, zero, ◌+◌, ◌-◌, ◌%◌, ◌<◌, ◌≤◌, Bool, true, false, if◌then◌else◌, fold, Option, Some, None, List, [], ◌∷◌, ◌++◌, length, take, get_or, replicate, refl, sym, ◌∙◌, ap, append-nil, append_assoc, arith, length-append, map, ◌↔◌}
 use Rattle.std.proofs.lemmas.List.{length-map}
-use Rattle.gcc_units.specs.Walk.{each_by-length}
+use Rattle.gcc_units.proofs.Walk.{each_by-length}
 use Rattle.twcc_report.specs.Spelling.{view}
 use Rattle.twcc_report.specs.declared.report.Report.{Report}
 use Rattle.link_path.specs.declared.TheConstants.{GREATEST_TAKEN}

@@ -3,7 +3,8 @@ use Rattle.std.proofs.Common.{◌≡◌, ℕ, ℤ, ◌+◌, ◌-◌, ◌%◌, Op
 use Rattle.std.proofs.lemmas.Grind.{flat_map-append}
 use Rattle.std.proofs.lemmas.List.{map-append, length-map}
 use Rattle.std.proofs.lemmas.List.Sums.{fold-append}
-use Rattle.gcc_units.specs.Walk.{each_by, walk-push, flat_map-push, each_by-length}
+use Rattle.gcc_units.specs.Walk.{each_by}
+use Rattle.gcc_units.proofs.Walk.{walk-push, flat_map-push, each_by-length}
 use Rattle.twcc_report.specs.Spelling.{Feedback}
 use Rattle.link_path.specs.declared.link.Arrival.{Arrival}
 use Rattle.link_path.specs.Division.{Run, last_time, time_after, runs_of, report_of, reports_on}

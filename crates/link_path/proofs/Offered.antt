@@ -5,7 +5,7 @@ use Rattle.std.proofs.lemmas.Bool.Decides.{nat_tests}
 use Rattle.std.proofs.lemmas.List.{drop_all}
 use Rattle.std.proofs.lemmas.List.Sums.{fold-append}
 use Rattle.std.proofs.lemmas.Nat.{mul-le}
-use Rattle.gcc_units.specs.Walk.{walk-push, flat_map-push, flat_each-push}
+use Rattle.gcc_units.proofs.Walk.{walk-push, flat_map-push, flat_each-push}
 use Rattle.gcc_units.specs.declared.limits.TheConstants.{BYTE, GREATEST_MOMENT, LEAST_RATE}
 use Rattle.link_path.specs.declared.link.LinkSettings.{LinkSettings}
 use Rattle.link_path.specs.declared.link.Arrival.{Arrival}

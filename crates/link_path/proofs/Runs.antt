@@ -2,7 +2,7 @@
 use Rattle.std.proofs.Common.{◌≡◌, ℕ, suc, ◌-◌, ◌*◌, ◌/◌, ◌≤◌, Option, Some, None, List, [], ◌∷◌, ◌++◌, length, refl, ap, arith}
 use Rattle.std.specs.Option.{unwrap_or}
 use Rattle.std.proofs.lemmas.List.Sums.{fold-append}
-use Rattle.gcc_units.specs.Walk.{each_by-push, flat_map-push}
+use Rattle.gcc_units.proofs.Walk.{each_by-push, flat_map-push}
 use Rattle.twcc_report.specs.declared.report.Status.{Status}
 use Rattle.link_path.specs.declared.TheConstants.{GREATEST_DELTA}
 use Rattle.link_path.specs.Division.{Run, Told, placed, divided, first_time, last_time, time_after, numbers_in, status_at, statuses, report_of, reports_on}

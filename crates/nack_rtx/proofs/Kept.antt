@@ -3,7 +3,7 @@ use Rattle.std.proofs.Common.{◌≡◌, ℕ, ◌+◌, ◌-◌, ◌<◌, ◌≤�
 use Rattle.std.proofs.lemmas.List.{drop-set-add, get_or-set_same, get_or-set_other}
 use Rattle.std.proofs.lemmas.List.Sums.{fold-append, sum_by-set, sum_by-append}
 use Rattle.std.proofs.lemmas.Bool.{cases_eq, ne_eqb}
-use Rattle.gcc_units.specs.Walk.{each_by-push}
+use Rattle.gcc_units.proofs.Walk.{each_by-push}
 use Rattle.rtp_wire.specs.Place.{field16}
 use Rattle.circular_buffer.specs.Buffer.{keep_last}
 use Rattle.nack_rtx.specs.declared.TheConstants.{MOST_STORED}

@@ -1,7 +1,7 @@
 -- What a pair names, bit by bit.
 use Rattle.std.proofs.Common.{◌≡◌, ℕ, zero, suc, ◌+◌, ◌/◌, ◌%◌, ◌^◌, ◌<◌, ◌≤◌, ◌==◌, cond, List, [], ◌∷◌, ◌++◌, length, drop, add-one, refl, sym, ap, ◌∙◌, arith}
 use Rattle.std.specs.List.{flat_map, range_with_len}
-use Rattle.gcc_units.specs.Walk.{flat_map-push}
+use Rattle.gcc_units.proofs.Walk.{flat_map-push}
 use Rattle.nack_rtx.specs.Naming.{names, named_in}
 use Rattle.nack_rtx.specs.Running.{with_number, adding}
 use Rattle.gcc_units.specs.Numbers.{number16}

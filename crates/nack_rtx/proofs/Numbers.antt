@@ -4,7 +4,8 @@ use Rattle.std.specs.List.{flat_map}
 use Rattle.std.proofs.lemmas.List.Folds.{list_any-append}
 use Rattle.std.proofs.lemmas.Bool.{eqb-true}
 use Rattle.std.proofs.lemmas.List.Sums.{sum_by-append, sum_by-cons}
-use Rattle.gcc_units.specs.Walk.{each_by, flat_each-push}
+use Rattle.gcc_units.specs.Walk.{each_by}
+use Rattle.gcc_units.proofs.Walk.{flat_each-push}
 use Rattle.nack_rtx.specs.Naming.{has, first_at, first_of}
 use Rattle.nack_rtx.specs.Running.{with_number, adding}
 

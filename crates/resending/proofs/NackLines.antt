@@ -1,7 +1,7 @@
 -- One line more.
 use Rattle.std.proofs.Common.{◌≡◌, ℕ, suc, zero, ◌+◌, Some, List, [], ◌∷◌, ◌++◌, length, take, slice_get, length-take, ◌∙◌, ap, arith}
 use Rattle.std.proofs.lemmas.Option.{slice_get_within}
-use Rattle.gcc_units.specs.Walk.{flat_each-push}
+use Rattle.gcc_units.proofs.Walk.{flat_each-push}
 use Rattle.resending.specs.declared.nack_line.NackLine.{NackLine}
 use Rattle.resending.specs.NackText.{nack_text, nack_lines}
 

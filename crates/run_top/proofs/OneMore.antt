@@ -6,7 +6,7 @@ use Rattle.std.specs.String.{string_bytes}
 use Rattle.std.proofs.lemmas.List.{append-nil, take-append-drop, get_or_append_left, get_or_at, drop_more, take_more, take_all}
 use Rattle.std.proofs.lemmas.List.Elements.{All-weaker}
 use Rattle.std.proofs.lemmas.Grind.{flat_map-append}
-use Rattle.gcc_units.specs.Walk.{flat_map-push, flat_each-push}
+use Rattle.gcc_units.proofs.Walk.{flat_map-push, flat_each-push}
 use Rattle.gcc_units.specs.declared.limits.TheConstants.{GREATEST_MOMENT}
 use Rattle.gcc_units.specs.declared.shared_types.Credit.{Credit}
 use Rattle.gcc_units.specs.declared.shared_types.Sample.{Sample}

@@ -6,7 +6,8 @@ use Rattle.std.specs.Int.{int_min, int_max, int_div_euclid}
 use Rattle.std.proofs.lemmas.Int.{ints, int_max_is, int_min_is}
 use Rattle.std.proofs.lemmas.List.{get_or_at}
 use Rattle.std.proofs.lemmas.List.Sums.{fold-append, sum_by-append}
-use Rattle.gcc_units.specs.Walk.{each_by, each_by-push}
+use Rattle.gcc_units.specs.Walk.{each_by}
+use Rattle.gcc_units.proofs.Walk.{each_by-push}
 use Rattle.gcc_units.specs.declared.limits.TheConstants.{GREATEST_MOMENT, MOST_PACKETS}
 use Rattle.gcc_units.specs.declared.shared_types.Sample.{Sample}
 use Rattle.gcc_units.specs.declared.shared_types.Signal.{Signal}

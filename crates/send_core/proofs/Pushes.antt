@@ -4,7 +4,7 @@ use Rattle.std.specs.List.{list_any}
 use Rattle.std.proofs.lemmas.List.Sums.{fold-append}
 use Rattle.std.proofs.lemmas.List.Folds.{list_any-append}
 use Rattle.std.proofs.lemmas.List.Elements.{All-nil, All-cons, All-filter}
-use Rattle.gcc_units.specs.Walk.{walk-push, flat_map-push, flat_each-push}
+use Rattle.gcc_units.proofs.Walk.{walk-push, flat_map-push, flat_each-push}
 use Rattle.probe_clusters.specs.Deeds.{Deed}
 use Rattle.estimator.specs.Est.{Est, start_est}
 use Rattle.pace_queues.specs.declared.ticket.Ticket.{Ticket}

@@ -5,7 +5,8 @@ use Rattle.std.specs.Int.{int_min}
 use Rattle.std.proofs.lemmas.Int.{ints, clamps}
 use Rattle.std.proofs.lemmas.List.Sums.{fold-append, sum_by-append}
 use Rattle.gcc_units.specs.declared.limits.TheConstants.{MOST_SENDS}
-use Rattle.gcc_units.specs.Walk.{each_by, flat_each-push}
+use Rattle.gcc_units.specs.Walk.{each_by}
+use Rattle.gcc_units.proofs.Walk.{flat_each-push}
 use Rattle.pace_budget.specs.Level.{Deed, Advance, level, bits}
 use Rattle.pace_budget.specs.Steps.{step, level-step, StandsFor-steps}
 use Rattle.pace_budget.specs.Spans.{Opens, Opens-append, Count, count, none_counted, IsWithin, count-within}

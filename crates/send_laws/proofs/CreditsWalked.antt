@@ -3,7 +3,7 @@ use Rattle.std.proofs.Common.{◌≡◌, ℕ, ◌+◌, ◌*◌, ◌^◌, ◌<◌
 use Rattle.std.proofs.lemmas.List.{length-map}
 use Rattle.std.proofs.lemmas.List.Elements.{All-push}
 use Rattle.std.proofs.lemmas.List.Sums.{sum_by-append, sum_by-cons, count_by-le-length}
-use Rattle.gcc_units.specs.Walk.{flat_map-push}
+use Rattle.gcc_units.proofs.Walk.{flat_map-push}
 use Rattle.gcc_units.specs.declared.shared_types.Credit.{Credit}
 use Rattle.send_core.specs.declared.call.Entry.{Entry}
 use Rattle.send_core.specs.History.{sent, sent_by}

@@ -3,7 +3,7 @@ use Rattle.std.proofs.Common.{◌≡◌, ℕ, ◌+◌, ◌-◌, ◌*◌, ◌^◌
 use Rattle.std.proofs.lemmas.List.{append-nil}
 use Rattle.std.proofs.lemmas.List.Folds.{list_any-append}
 use Rattle.std.proofs.lemmas.Option.{get_or_from_slice_get}
-use Rattle.gcc_units.specs.Walk.{flat_map-push}
+use Rattle.gcc_units.proofs.Walk.{flat_map-push}
 use Rattle.gcc_units.specs.declared.limits.TheConstants.{MOST_SENDS}
 use Rattle.probe_clusters.specs.Deeds.{Deed, rates, sizes, moments}
 use Rattle.pacer.specs.declared.sent.Sent.{Sent}

@@ -4,7 +4,7 @@ use Rattle.std.specs.Int.{int_min}
 use Rattle.std.proofs.lemmas.Int.{ints, clamps}
 use Rattle.std.proofs.lemmas.List.Sums.{fold-append, sum_by-append, sum_by-cons}
 use Rattle.gcc_units.specs.declared.limits.TheConstants.{MOST_SENDS}
-use Rattle.gcc_units.specs.Walk.{walk-push}
+use Rattle.gcc_units.proofs.Walk.{walk-push}
 use Rattle.pace_budget.specs.Level.{bits}
 use Rattle.pace_budget.specs.Steps.{step}
 use Rattle.probe_clusters.specs.Clusters.{due}

@@ -7,7 +7,7 @@ use Rattle.std.proofs.lemmas.List.{append-nil}
 use Rattle.std.proofs.lemmas.List.Elements.{All-head, All-tail}
 use Rattle.std.proofs.lemmas.List.Sums.{fold-append}
 use Rattle.std.proofs.lemmas.Grind.{flat_map-append}
-use Rattle.gcc_units.specs.Walk.{flat_map-push, walk-push}
+use Rattle.gcc_units.proofs.Walk.{flat_map-push, walk-push}
 use Rattle.gcc_units.specs.declared.shared_types.Credit.{Credit}
 use Rattle.gcc_units.specs.declared.limits.TheConstants.{GREATEST_MOMENT, MOST_WAITING, MOST_SENDS}
 use Rattle.rtp_wire.specs.declared.packet.WireFault.{WireFault}

@@ -8,7 +8,7 @@ use Rattle.std.proofs.lemmas.Bool.{leb-true, eqb-true, lt-ltb}
 use Rattle.gcc_units.specs.declared.limits.TheConstants.{GREATEST_MOMENT, MOST_WAITING}
 use Rattle.gcc_units.specs.declared.class.Class.{Class}
 use Rattle.gcc_units.specs.Listed.{Listed}
-use Rattle.gcc_units.specs.Walk.{flat_map-push}
+use Rattle.gcc_units.proofs.Walk.{flat_map-push}
 use Rattle.pace_queues.specs.declared.ticket.Ticket.{Ticket}
 use Rattle.pace_queues.specs.Waiting.{next}
 use Rattle.pace_queues.specs.Laws.{next-is_one}

@@ -6,7 +6,7 @@ use Rattle.std.proofs.lemmas.List.{append-nil}
 use Rattle.std.proofs.lemmas.List.Elements.{All-weaker, All-head, All-tail}
 use Rattle.std.proofs.lemmas.List.Folds.{list_any_none}
 use Rattle.std.proofs.lemmas.List.Sums.{sum_by-cons}
-use Rattle.gcc_units.specs.Walk.{flat_map-push}
+use Rattle.gcc_units.proofs.Walk.{flat_map-push}
 use Rattle.gcc_units.specs.declared.limits.TheConstants.{GREATEST_MOMENT, KEPT_PACKETS, MOST_WAITING}
 use Rattle.rtp_wire.specs.declared.packet.WireFault.{WireFault}
 use Rattle.rtp_wire.specs.Place.{place_of}

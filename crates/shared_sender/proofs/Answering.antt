@@ -1,7 +1,8 @@
 -- The journal and the history with packets, and a call more in both.
 use Rattle.std.proofs.Common.{◌≡◌, ℕ, suc, zero, ◌↔◌, ◌≤◌, List, [], ◌∷◌, ◌++◌, length, take, Some, slice_get, Result, Ok, Err, IfOk, IfErr, refl, sym, ◌∙◌, ap, subst, arith, append_assoc, append-nil}
 use Rattle.std.proofs.lemmas.List.{map-append}
-use Rattle.gcc_units.specs.Walk.{each_by, each_by-push, each_by-length}
+use Rattle.gcc_units.specs.Walk.{each_by}
+use Rattle.gcc_units.proofs.Walk.{each_by-push, each_by-length}
 use Rattle.gcc_units.specs.declared.limits.TheConstants.{MOST_ENTRIES}
 use Rattle.rtp_wire.specs.Wires.{bare_wires}
 use Rattle.send_core.specs.declared.call.Call.{Call}

@@ -4,7 +4,7 @@ use Rattle.std.proofs.lemmas.List.{take_more, take_all, map-append}
 use Rattle.std.proofs.Math.Seq.{drop-cons}
 use Rattle.gcc_units.specs.declared.limits.TheConstants.{MOST_PACKETS}
 use Rattle.gcc_units.specs.declared.shared_types.Credit.{Credit}
-use Rattle.gcc_units.specs.Walk.{flat_map-push}
+use Rattle.gcc_units.proofs.Walk.{flat_map-push}
 use Rattle.probe_clusters.specs.declared.cluster.Cluster.{Cluster}
 use Rattle.probe_clusters.specs.declared.probes.Outcome.{Outcome}
 use Rattle.probe_clusters.specs.Cluster.{with_credit, is_ready}

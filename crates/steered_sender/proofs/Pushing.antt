@@ -3,7 +3,7 @@ use Rattle.std.proofs.Common.{◌≡◌, ℕ, ◌+◌, ◌≤◌, ◌==◌, ◌|
 use Rattle.std.specs.Option.{ForSome}
 use Rattle.std.proofs.lemmas.List.{append-nil}
 use Rattle.std.proofs.lemmas.Grind.{flat_map-append}
-use Rattle.gcc_units.specs.Walk.{walk-push}
+use Rattle.gcc_units.proofs.Walk.{walk-push}
 use Rattle.gcc_units.specs.declared.limits.TheConstants.{GREATEST_MOMENT}
 use Rattle.gcc_units.specs.declared.shared_types.Credit.{Credit}
 use Rattle.twcc_report.specs.Spelling.{Feedback}

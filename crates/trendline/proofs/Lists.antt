@@ -4,7 +4,7 @@ use Rattle.std.proofs.lemmas.Int.{ints}
 use Rattle.std.proofs.lemmas.Bool.{cases_lt}
 use Rattle.std.proofs.lemmas.List.{drop-append-le, drop-drop}
 use Rattle.gcc_units.specs.declared.shared_types.Sample.{Sample}
-use Rattle.gcc_units.specs.Walk.{each_by-push}
+use Rattle.gcc_units.proofs.Walk.{each_by-push}
 use Rattle.trendline.specs.declared.TheConstants.{MOST_POINTS}
 use Rattle.trendline.specs.declared.sums.Point.{Point}
 use Rattle.trendline.specs.Trend.{total, gap_of, delay_of, point_of, points, last_of, last_points, x_of, y_of, product_of, square_of, sums_of}

@@ -4,11 +4,12 @@ use Rattle.std.proofs.lemmas.List.Elements.{All-nil, All-cons, All-head, All-tai
 use Rattle.gcc_units.specs.declared.limits.TheConstants.{GREATEST_MOMENT, GREATEST_PACKET, MOST_SENDS}
 use Rattle.pace_queues.specs.declared.ticket.Ticket.{Ticket}
 use Rattle.pace_queues.specs.Waiting.{next}
-use Rattle.pace_queues.specs.Laws.{next-is_one}
+use Rattle.pace_queues.proofs.Waiting.{next-is_one}
 use Rattle.pacer.specs.declared.sent.Sent.{Sent}
 use Rattle.pacer.specs.declared.course.Terms.{Terms}
-use Rattle.pacer.specs.Pace.{Standing, rule, after, then_on, paced, paced-zero, paced-suc}
-use Rattle.pacer.specs.Ruled.{size_in, rule-is}
+use Rattle.pacer.specs.Pace.{Standing, rule, after, then_on, paced}
+use Rattle.pacer.proofs.Pace.{paced-zero, paced-suc}
+use Rattle.pacer.proofs.Ruled.{size_in, rule-is}
 use Rattle.send_core.specs.declared.call.Call.{Call}
 use Rattle.send_core.specs.declared.call.Call.TheVariants as call
 use Rattle.send_core.specs.declared.call.Reply.{Reply}

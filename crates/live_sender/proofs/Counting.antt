@@ -6,7 +6,7 @@ use Rattle.std.proofs.lemmas.List.Sums.{sum_by-cons}
 use Rattle.gcc_units.specs.declared.limits.TheConstants.{GREATEST_PACKET}
 use Rattle.pacer.specs.declared.sent.Sent.{Sent}
 use Rattle.pacer.specs.declared.sent.Kind.{Kind}
-use Rattle.pacer.specs.Sends.{IsSmallRecord}
+use Rattle.pacer.specs.Course.{IsSmallRecord}
 use Rattle.live_sender.specs.declared.sums.Total.{Total}
 use Rattle.live_sender.specs.declared.sums.SentTotals.{SentTotals}
 use Rattle.send_core.specs.declared.counts.TheConstants.{MOST_SENT}

@@ -5,12 +5,12 @@ use Rattle.std.proofs.lemmas.List.Elements.{All-nil, All-cons, All-head, All-tai
 use Rattle.gcc_units.specs.declared.limits.TheConstants.{GREATEST_MOMENT, MOST_SENDS}
 use Rattle.pace_queues.specs.declared.ticket.Ticket.{Ticket}
 use Rattle.pace_queues.specs.Waiting.{next}
-use Rattle.pace_queues.specs.Laws.{next-is_one}
+use Rattle.pace_queues.proofs.Waiting.{next-is_one}
 use Rattle.pacer.specs.declared.sent.Sent.{Sent}
 use Rattle.pacer.specs.declared.course.Terms.{Terms}
 use Rattle.pacer.specs.Pace.{Standing, names, IsBelow, NamesBelow, index_of, paced}
-use Rattle.pacer.specs.Ruled.{rule-is}
-use Rattle.pacer.specs.Sends.{sends-have}
+use Rattle.pacer.proofs.Ruled.{rule-is}
+use Rattle.pacer.proofs.Sends.{sends-have}
 use Rattle.rtp_wire.specs.Wires.{bare_wires}
 use Rattle.send_core.specs.declared.call.Call.TheVariants as call_kind
 use Rattle.send_core.specs.declared.call.Cause.TheVariants as cause_kind

@@ -13,7 +13,7 @@ use Rattle.twcc_report.specs.Reading.{read_of}
 use Rattle.twcc_report.specs.Spelling.{Feedback}
 use Rattle.pacer.specs.declared.sent.Sent.{Sent}
 use Rattle.pacer.specs.Pace.{NamesBelow, names, unsent}
-use Rattle.pacer.specs.Records.{unsent-none}
+use Rattle.pacer.proofs.Records.{unsent-none}
 use Rattle.send_core.specs.declared.call.Call.{Call}
 use Rattle.send_core.specs.declared.call.Call.TheVariants as call_kind
 use Rattle.send_core.specs.declared.call.Cause.TheVariants as cause_kind

@@ -7,7 +7,8 @@ use Rattle.pacer.specs.declared.sent.Sent.{Sent}
 use Rattle.pacer.specs.declared.course.Terms.{Terms}
 use Rattle.pacer.specs.Next.{first_at}
 use Rattle.pacer.specs.State.{advanced, terms}
-use Rattle.pacer.specs.Pace.{Standing, rule, after, then_on, paced, paced-suc}
+use Rattle.pacer.specs.Pace.{Standing, rule, after, then_on, paced}
+use Rattle.pacer.proofs.Pace.{paced-suc}
 use Rattle.send_core.specs.declared.call.Call.TheVariants as call_kind
 use Rattle.send_core.specs.declared.call.Entry.{Entry}
 use Rattle.send_core.specs.declared.parts.Parts.{Parts}

@@ -19,7 +19,7 @@ use Rattle.sent_history.specs.Crediting.{Account, start, after, account, judged,
 use Rattle.sent_history.specs.Laws.{missing_few, credited_few}
 use Rattle.sent_history.specs.Pushes.{account-push}
 use Rattle.pacer.specs.declared.sent.Sent.{Sent}
-use Rattle.pacer.specs.Sends.{IsSmallRecord}
+use Rattle.pacer.specs.Course.{IsSmallRecord}
 use Rattle.send_core.specs.declared.call.Call.{Call}
 use Rattle.send_core.specs.declared.call.Call.TheVariants as call_kind
 use Rattle.send_core.specs.declared.call.Cause.TheVariants as cause_kind

@@ -4,7 +4,7 @@ use Rattle.sent_history.specs.Crediting.{account}
 use Rattle.pacer.specs.declared.sent.Sent.{Sent}
 use Rattle.pacer.specs.declared.sent.Kind.{Kind}
 use Rattle.pacer.specs.declared.sent.Kind.TheVariants as kind
-use Rattle.pacer.specs.Sends.{IsSmallRecord}
+use Rattle.pacer.specs.Course.{IsSmallRecord}
 use Rattle.send_core.specs.declared.call.Entry.{Entry}
 use Rattle.send_core.specs.declared.counts.TheConstants.{MOST_SENT}
 use Rattle.send_core.specs.History.{sent}

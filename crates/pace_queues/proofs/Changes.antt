@@ -13,7 +13,7 @@ use Rattle.gcc_units.specs.declared.limits.TheConstants.{MOST_WAITING}
 use Rattle.pace_queues.specs.declared.queues.Queues.TheInside.{Inside}
 use Rattle.pace_queues.specs.declared.ticket.Ticket.{Ticket}
 use Rattle.pace_queues.specs.Waiting.{CameBefore, HasIndexBelow, GoesNoLater, IsLeast, LosesJust, next, rest, without, size_of, accepted_at_of}
-use Rattle.pace_queues.specs.Laws.{AllPairs-head, AllPairs-tail, All-without, without-one}
+use Rattle.pace_queues.proofs.Waiting.{AllPairs-head, AllPairs-tail, All-without, without-one}
 use Rattle.pace_queues.specs.Rings.{has_rank, of_rank, in_order, Fits, AreRings}
 use Rattle.pace_queues.proofs.Rings.{in_order-is}
 

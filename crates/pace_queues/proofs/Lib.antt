@@ -1,3 +1,4 @@
 pub mod Rings
 pub mod Oldest
 pub mod Changes
+pub mod Waiting

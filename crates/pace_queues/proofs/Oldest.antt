@@ -6,7 +6,7 @@ use Rattle.std.proofs.lemmas.List.Elements.{All-head}
 use Rattle.gcc_units.specs.Priority.{rank_of}
 use Rattle.pace_queues.specs.declared.ticket.Ticket.{Ticket}
 use Rattle.pace_queues.specs.Waiting.{CameBefore, earlier}
-use Rattle.pace_queues.specs.Laws.{AllPairs-head}
+use Rattle.pace_queues.proofs.Waiting.{AllPairs-head}
 use Rattle.pace_queues.specs.Rings.{of_rank}
 use Rattle.pace_queues.proofs.Rings.{OneOf, ranks, All-of_rank}
 

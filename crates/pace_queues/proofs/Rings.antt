@@ -10,7 +10,7 @@ use Rattle.gcc_units.specs.declared.class.Class.TheVariants.{Audio, Retransmissi
 use Rattle.gcc_units.specs.Priority.{rank_of}
 use Rattle.pace_queues.specs.declared.ticket.Ticket.{Ticket}
 use Rattle.pace_queues.specs.Waiting.{CameBefore, goes_before, better, next}
-use Rattle.pace_queues.specs.Laws.{AllPairs-head, AllPairs-tail}
+use Rattle.pace_queues.proofs.Waiting.{AllPairs-head, AllPairs-tail}
 use Rattle.pace_queues.specs.Rings.{has_rank, of_rank, put_in, by_index, in_order}
 
 put-cases : (P : Ticket → Type 0) (ts us : List Ticket) (b : Bool) → All P ts → All P us → All P (cond b ts us)

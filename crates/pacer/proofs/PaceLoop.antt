@@ -8,8 +8,9 @@ use Rattle.probe_clusters.specs.Deeds.{Deed, StandsFor, ReachedBy}
 use Rattle.pacer.specs.declared.sent.Sent.{Sent}
 use Rattle.pacer.specs.declared.course.Terms.{Terms}
 use Rattle.pacer.specs.Course.{HasRoom, IsLowered, MayLower, probe_by, probes_of}
-use Rattle.pacer.specs.LeftByRecords.{after_all-is}
-use Rattle.pacer.specs.Pace.{Standing, unsent, rule, after, after_all, then_on, paced, paced-zero, paced-suc}
+use Rattle.pacer.proofs.LeftByRecords.{after_all-is}
+use Rattle.pacer.specs.Pace.{Standing, unsent, rule, after, after_all, then_on, paced}
+use Rattle.pacer.proofs.Pace.{paced-zero, paced-suc}
 
 -- ---- the loop
 

@@ -7,16 +7,17 @@ use Rattle.gcc_units.specs.declared.limits.TheConstants.{MOST_SENDS}
 use Rattle.pace_budget.specs.Level.{bits}
 use Rattle.pace_queues.specs.declared.ticket.Ticket.{Ticket}
 use Rattle.pace_queues.specs.Waiting.{IsLeast, next, without}
-use Rattle.pace_queues.specs.Laws.{next-is_least}
+use Rattle.pace_queues.proofs.Waiting.{next-is_least}
 use Rattle.probe_clusters.specs.Clusters.{due}
 use Rattle.pacer.specs.declared.sent.Sent.{Sent}
 use Rattle.pacer.specs.declared.sent.Kind.{Kind}
 use Rattle.pacer.specs.declared.sent.Kind.TheVariants as kind
 use Rattle.pacer.specs.declared.course.Terms.{Terms}
-use Rattle.pacer.specs.Pace.{Standing, unsent, index_of, padding_by, clusters_by, rule, rule_for, after, then_on, paced, paced-zero, paced-suc}
-use Rattle.pacer.specs.Records.{unsent-one}
-use Rattle.pacer.specs.Sends.{paced-few}
-use Rattle.pacer.specs.Ruled.{IsAllowed, rule-is}
+use Rattle.pacer.specs.Pace.{Standing, unsent, index_of, padding_by, clusters_by, rule, rule_for, after, then_on, paced}
+use Rattle.pacer.proofs.Pace.{paced-zero, paced-suc}
+use Rattle.pacer.proofs.Records.{unsent-one}
+use Rattle.pacer.proofs.Sends.{paced-few}
+use Rattle.pacer.proofs.Ruled.{IsAllowed, rule-is}
 
 -- no cluster is due, and no padding may be sent
 pub record IsClosed (terms : Terms) (s : Standing) : Type 0 where

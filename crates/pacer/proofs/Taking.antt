@@ -4,7 +4,7 @@ use Rattle.pace_queues.specs.declared.ticket.Ticket.{Ticket}
 use Rattle.pace_queues.specs.Waiting.{next, rest, without_one}
 use Rattle.pacer.specs.declared.sent.Sent.{Sent}
 use Rattle.pacer.specs.Pace.{index_of, unsent}
-use Rattle.pacer.specs.Records.{unsent-one, unsent-no_index}
+use Rattle.pacer.proofs.Records.{unsent-one, unsent-no_index}
 
 taken_one : (r : Sent) (o : Option Ticket) (ts : List Ticket) → r.index ≡ index_of o → without_one o ts ≡ unsent (r ∷ []) ts
 taken_one r None ts is = sym (unsent-no_index r is ts)

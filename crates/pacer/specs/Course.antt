@@ -21,6 +21,9 @@ standing c clusters number =
 abbrev pub IsSmall : Ticket → Type 0
 IsSmall t = t.size ≤ GREATEST_PACKET
 
+abbrev pub IsSmallRecord : Sent → Type 0
+IsSmallRecord r = r.size ≤ GREATEST_PACKET
+
 -- no packet that waits is too large, and the floor is one that a bucket may have
 pub record IsFit (terms : Terms) (c : Course) : Type 0 where
   pub small : All IsSmall c.queues

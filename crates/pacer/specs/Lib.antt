@@ -1,9 +1,6 @@
 pub mod Pace
 pub mod Course
-pub mod Records
-pub mod Ruled
 pub mod LeftByRecords
-pub mod Sends
 pub mod Force
 pub mod State
 pub mod Inside

@@ -1,5 +1,6 @@
 -- One pace: which packets are sent, in which order, under which numbers.
-use Rattle.std.specs.Prelude.{◌≡◌, ℕ, ℤ, pos, suc, zero, ◌+◌, ◌-ℤ◌, ◌<◌, ◌==◌, ◌&&◌, ◌||◌, Bool, true, false, not, Option, None, Some, List, [], ◌∷◌, filter, fold, int_lt, if◌then◌else◌, refl}
+-- ---- records and tickets
+use Rattle.std.specs.Prelude.{ℕ, ℤ, pos, suc, zero, ◌+◌, ◌-ℤ◌, ◌<◌, ◌==◌, ◌&&◌, ◌||◌, Bool, true, false, not, Option, None, Some, List, [], ◌∷◌, filter, fold, int_lt, if◌then◌else◌}
 use Rattle.std.specs.Int.{int_min, int_max}
 use Rattle.std.specs.List.{list_any}
 use Rattle.gcc_units.specs.declared.class.Class.{Class}
@@ -15,8 +16,6 @@ use Rattle.pacer.specs.declared.sent.Sent.{Sent}
 use Rattle.pacer.specs.declared.sent.Kind.{Kind}
 use Rattle.pacer.specs.declared.sent.Kind.TheVariants as kind
 use Rattle.pacer.specs.declared.course.Terms.{Terms}
-
--- ---- records and tickets
 
 -- the record is of this accepted packet
 abbrev pub is_index : ℕ → Option ℕ → Bool
@@ -162,14 +161,6 @@ then_on (Some r) more = r ∷ more r
 unfoldable pub paced : ℕ → Terms → Standing → List Sent
 paced zero terms s = []
 paced (suc most) terms s = then_on (rule terms s) (λ r. paced most terms (after terms s r))
-
-pub paced-zero : (terms : Terms) (s : Standing) → paced 0 terms s ≡ []
-unfolding paced
-paced-zero terms s = refl
-
-pub paced-suc : (most : ℕ) (terms : Terms) (s : Standing) → paced (suc most) terms s ≡ then_on (rule terms s) (λ r. paced most terms (after terms s r))
-unfolding paced
-paced-suc most terms s = refl
 
 -- how a pace stands after these sends
 abbrev pub after_all : Terms → Standing → List Sent → Standing

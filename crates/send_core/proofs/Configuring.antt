@@ -8,7 +8,7 @@ use Rattle.gcc_units.specs.Listed.{Listed, bare}
 use Rattle.allocator.specs.declared.stream.Stream.{Stream}
 use Rattle.allocator.specs.Shares.{shares}
 use Rattle.allocator.specs.Streams.{changed}
-use Rattle.pacer.specs.Records.{unsent-none}
+use Rattle.pacer.proofs.Records.{unsent-none}
 use Rattle.pacer.specs.State.{advanced, tuned}
 use Rattle.probe_clusters.specs.declared.cluster.Cluster.{Cluster}
 use Rattle.probe_clusters.specs.Deeds.{Deed, Plan}

@@ -8,7 +8,7 @@ use Rattle.std.proofs.lemmas.List.Sums.{length-filter, count_by-le-length, sum_b
 use Rattle.gcc_units.specs.declared.limits.TheConstants.{MOST_SENDS}
 use Rattle.pace_queues.specs.declared.ticket.Ticket.{Ticket}
 use Rattle.pace_queues.specs.Waiting.{next, without, IsLeast}
-use Rattle.pace_queues.specs.Laws.{next-is_least}
+use Rattle.pace_queues.proofs.Waiting.{next-is_least}
 use Rattle.probe_clusters.specs.declared.cluster.Cluster.{Cluster}
 use Rattle.probe_clusters.specs.Cluster.{waits}
 use Rattle.probe_clusters.specs.Clusters.{due, due_at}
@@ -16,10 +16,11 @@ use Rattle.pacer.specs.declared.sent.Sent.{Sent}
 use Rattle.pacer.specs.declared.sent.Kind.{Kind}
 use Rattle.pacer.specs.declared.sent.Kind.TheVariants as kind
 use Rattle.pacer.specs.declared.course.Terms.{Terms}
-use Rattle.pacer.specs.Pace.{Standing, index_of, rule_for, rule, after, then_on, paced, paced-zero, paced-suc, padding_by, clusters_by}
-use Rattle.pacer.specs.Records.{unsent-one}
-use Rattle.pacer.specs.Ruled.{IsAllowed, IsRuledBy, rule-is}
-use Rattle.pacer.specs.Sends.{paced-few}
+use Rattle.pacer.specs.Pace.{Standing, index_of, rule_for, rule, after, then_on, paced, padding_by, clusters_by}
+use Rattle.pacer.proofs.Pace.{paced-zero, paced-suc}
+use Rattle.pacer.proofs.Records.{unsent-one}
+use Rattle.pacer.proofs.Ruled.{IsAllowed, IsRuledBy, rule-is}
+use Rattle.pacer.proofs.Sends.{paced-few}
 use Rattle.pacer.specs.State.{advanced, terms, standing}
 use Rattle.send_core.specs.declared.parts.Parts.{Parts}
 use Rattle.send_core.specs.Bounds.{is_quiet, most_paced}

@@ -27,7 +27,7 @@ use Rattle.gcc_units.specs.declared.shared_types.Signal.{Signal}
 use Rattle.gcc_units.specs.Listed.{Listed, bare}
 use Rattle.allocator.specs.declared.stream.Stream.{Stream}
 use Rattle.allocator.specs.Shares.{shares}
-use Rattle.pacer.specs.Records.{unsent-none}
+use Rattle.pacer.proofs.Records.{unsent-none}
 use Rattle.pacer.specs.State.{State, advanced, tuned}
 use Rattle.send_core.specs.declared.call.Rates.{Rates}
 use Rattle.send_core.specs.declared.settings.Settings.{Settings}

@@ -30,10 +30,10 @@ use Rattle.estimator.specs.Est.{Est, found}
 use Rattle.pacer.specs.declared.sent.Sent.{Sent}
 use Rattle.pacer.specs.declared.sent.Kind.{Kind}
 use Rattle.pacer.specs.declared.sent.Kind.TheVariants as kind
-use Rattle.pacer.specs.Course.{IsSmall, probe_as, probes_of}
+use Rattle.pacer.specs.Course.{IsSmall, probe_as, probes_of, IsSmallRecord}
 use Rattle.pacer.specs.Pace.{NamesBelow, paced}
-use Rattle.pacer.specs.Sends.{paced-few, paced-known, IsSmallRecord, paced-small, IsForPlanned, paced-planned}
-use Rattle.pacer.specs.Sends as sends
+use Rattle.pacer.proofs.Sends.{paced-few, paced-known, paced-small, IsForPlanned, paced-planned}
+use Rattle.pacer.proofs.Sends as sends
 use Rattle.send_core.specs.declared.call.Call.{Call}
 use Rattle.send_core.specs.declared.call.Call.TheVariants as call_kind
 use Rattle.send_core.specs.declared.call.Change.{Change}

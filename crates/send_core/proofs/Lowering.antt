@@ -6,14 +6,14 @@ use Rattle.std.proofs.lemmas.List.Elements.{All-head, All-tail}
 use Rattle.gcc_units.specs.declared.limits.TheConstants.{GREATEST_PACKET}
 use Rattle.pace_budget.specs.Level.{Spend, Probe, level}
 use Rattle.pace_budget.specs.Level as bucket
-use Rattle.pace_budget.specs.Steps.{step, StandsFor-steps}
+use Rattle.pace_budget.specs.Steps.{step}
+use Rattle.pace_budget.proofs.Steps.{StandsFor-steps}
 use Rattle.pacer.specs.declared.sent.Sent.{Sent}
 use Rattle.pacer.specs.declared.sent.Kind.{Kind}
 use Rattle.pacer.specs.declared.sent.Kind.TheVariants as kind
 use Rattle.pacer.specs.LeftByRecords.{spending}
-use Rattle.pacer.specs.Course.{IsLowered}
+use Rattle.pacer.specs.Course.{IsLowered, IsSmallRecord}
 use Rattle.pacer.specs.Pace.{deed_by}
-use Rattle.pacer.specs.Sends.{IsSmallRecord}
 use Rattle.send_core.specs.declared.call.Entry.{Entry}
 use Rattle.send_core.specs.History.{later, now, sent_by, sent}
 use Rattle.send_core.specs.Levels.{passing, deeds}

@@ -4,7 +4,8 @@ use Rattle.std.proofs.lemmas.List.{append-nil}
 use Rattle.gcc_units.specs.Listed.{Listed, bare}
 use Rattle.gcc_units.specs.declared.limits.TheConstants.{GREATEST_MOMENT, MOST_SENDS}
 use Rattle.pace_budget.specs.Level.{Advance}
-use Rattle.pace_budget.specs.Steps.{step, level-step}
+use Rattle.pace_budget.specs.Steps.{step}
+use Rattle.pace_budget.proofs.Steps.{level-step}
 use Rattle.pace_queues.specs.declared.ticket.Ticket.{Ticket}
 use Rattle.sent_history.specs.Events.{Event, packets}
 use Rattle.sent_history.specs.Balance.{HasFewStatuses}
@@ -18,7 +19,7 @@ use Rattle.pacer.specs.declared.course.Terms.{Terms}
 use Rattle.pacer.specs.declared.pacing.Pacing.{Pacing}
 use Rattle.pacer.specs.Course.{IsLowered, MayLower, probes_of}
 use Rattle.pacer.specs.Pace.{Standing, unsent, paced, after_all}
-use Rattle.pacer.specs.LeftByRecords.{after_each, after_all-is}
+use Rattle.pacer.proofs.LeftByRecords.{after_each, after_all-is}
 use Rattle.pacer.specs.State.{State, advanced, tuned, terms, standing, left}
 use Rattle.send_core.specs.declared.call.Call.TheVariants as call_kind
 use Rattle.send_core.specs.declared.call.Reply.TheVariants as reply_kind

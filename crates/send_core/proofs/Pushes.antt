@@ -12,7 +12,7 @@ use Rattle.pace_queues.specs.Waiting.{HasIndexBelow}
 use Rattle.pacer.specs.declared.sent.Sent.{Sent}
 use Rattle.pacer.specs.Pace.{IsBelow, NamesBelow, unsent, is_media}
 use Rattle.pacer.specs.LeftByRecords.{has_media}
-use Rattle.pacer.specs.Records.{unsent-append, unsent-then, unsent-later}
+use Rattle.pacer.proofs.Records.{unsent-append, unsent-then, unsent-later}
 use Rattle.send_core.specs.declared.call.Call.{Call}
 use Rattle.send_core.specs.declared.call.Call.TheVariants.{Enqueue}
 use Rattle.send_core.specs.declared.call.Reply.{Reply}

@@ -2,7 +2,8 @@
 use Rattle.std.proofs.Common.{◌≡◌, ℕ, ◌+◌, ◌-◌, ◌||◌, List, [], ◌∷◌, ◌++◌, length, fold, min, sym, ◌∙◌, ap, subst, length-append}
 use Rattle.pace_budget.specs.Level.{Deed, Advance}
 use Rattle.pace_budget.specs.Level as bucket
-use Rattle.pace_budget.specs.Steps.{step, StandsFor-steps}
+use Rattle.pace_budget.specs.Steps.{step}
+use Rattle.pace_budget.proofs.Steps.{StandsFor-steps}
 use Rattle.sent_history.specs.Kept as history_kept
 use Rattle.probe_clusters.specs.Deeds as probes
 use Rattle.estimator.specs.Kept as estimator

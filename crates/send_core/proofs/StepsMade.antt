@@ -15,7 +15,7 @@ use Rattle.sent_history.specs.Balance.{HasFewStatuses}
 use Rattle.probe_clusters.specs.Deeds as probes
 use Rattle.estimator.specs.Est.{Est}
 use Rattle.estimator.specs.Kept as estimator
-use Rattle.pacer.specs.Records.{unsent-none}
+use Rattle.pacer.proofs.Records.{unsent-none}
 use Rattle.pacer.specs.State.{State, advanced, accepted, tuned}
 use Rattle.send_core.specs.declared.call.Call.{Call}
 use Rattle.send_core.specs.declared.call.Call.TheVariants as call_kind

@@ -8,14 +8,16 @@ use Rattle.gcc_units.specs.declared.limits.TheConstants.{MOST_SENDS}
 use Rattle.gcc_units.specs.Walk.{each_by}
 use Rattle.gcc_units.proofs.Walk.{flat_each-push}
 use Rattle.pace_budget.specs.Level.{Deed, Advance, level, bits}
-use Rattle.pace_budget.specs.Steps.{step, level-step, StandsFor-steps}
-use Rattle.pace_budget.specs.Spans.{Opens, Opens-append, Count, count, none_counted, IsWithin, count-within}
+use Rattle.pace_budget.specs.Steps.{step}
+use Rattle.pace_budget.proofs.Steps.{level-step, StandsFor-steps}
+use Rattle.pace_budget.specs.Spans.{Opens, Count, count, none_counted, IsWithin}
+use Rattle.pace_budget.proofs.Spans.{Opens-append, count-within}
 use Rattle.pacer.specs.declared.sent.Sent.{Sent}
 use Rattle.pacer.specs.declared.sent.Kind.{Kind}
 use Rattle.pacer.specs.declared.sent.Kind.TheVariants as kind
 use Rattle.pacer.specs.LeftByRecords.{has_media}
 use Rattle.pacer.specs.Pace.{deed_by, deed_of, paced}
-use Rattle.pacer.specs.Sends.{paced-opens}
+use Rattle.pacer.proofs.Sends.{paced-opens}
 use Rattle.send_core.specs.declared.call.Entry.{Entry}
 use Rattle.send_core.specs.History.{later, now, sent, sent_by}
 use Rattle.send_core.specs.Levels.{rate, window, passing, spending, deeds_by, deeds}

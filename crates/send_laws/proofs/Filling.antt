@@ -6,7 +6,7 @@ use Rattle.std.proofs.lemmas.Int.{ints}
 use Rattle.std.proofs.lemmas.List.Sums.{sum_by-append, sum_by-cons}
 use Rattle.gcc_units.specs.Walk.{each_by}
 use Rattle.pace_budget.specs.Level.{Deed, bits, inflow, starts, IsAtMost, IsLeast}
-use Rattle.pace_budget.specs.Steps.{level-is_least}
+use Rattle.pace_budget.proofs.Steps.{level-is_least}
 use Rattle.pacer.specs.declared.sent.Sent.{Sent}
 use Rattle.pacer.specs.declared.sent.Kind.{Kind}
 use Rattle.pacer.specs.declared.sent.Kind.TheVariants as kind

@@ -12,8 +12,9 @@ use Rattle.pacer.specs.declared.sent.Sent.{Sent}
 use Rattle.pacer.specs.declared.sent.Kind.{Kind}
 use Rattle.pacer.specs.declared.sent.Kind.TheVariants as kind
 use Rattle.pacer.specs.declared.course.Terms.{Terms}
-use Rattle.pacer.specs.Pace.{Standing, padding_by, padding_after, rule, after, then_on, paced, paced-zero, paced-suc}
-use Rattle.pacer.specs.Ruled.{IsAllowed, rule-is}
+use Rattle.pacer.specs.Pace.{Standing, padding_by, padding_after, rule, after, then_on, paced}
+use Rattle.pacer.proofs.Pace.{paced-zero, paced-suc}
+use Rattle.pacer.proofs.Ruled.{IsAllowed, rule-is}
 use Rattle.send_core.specs.declared.call.Entry.{Entry}
 use Rattle.send_core.specs.History.{later, now, sent, sent_by}
 use Rattle.send_core.specs.Levels.{window, padding_rate, padding_passing, floor, padding}

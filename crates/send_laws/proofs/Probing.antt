@@ -26,9 +26,10 @@ use Rattle.pacer.specs.declared.sent.Kind.{Kind}
 use Rattle.pacer.specs.declared.sent.Kind.TheVariants as kind
 use Rattle.pacer.specs.declared.course.Terms.{Terms}
 use Rattle.pacer.specs.Course.{probe_as, probe_by, probes_of}
-use Rattle.pacer.specs.Pace.{Standing, clusters_by, rule, after, then_on, paced, paced-zero, paced-suc}
-use Rattle.pacer.specs.Ruled.{IsAllowed, rule-is}
-use Rattle.pacer.specs.Sends.{IsPlanned, IsForPlanned, paced-planned}
+use Rattle.pacer.specs.Pace.{Standing, clusters_by, rule, after, then_on, paced}
+use Rattle.pacer.proofs.Pace.{paced-zero, paced-suc}
+use Rattle.pacer.proofs.Ruled.{IsAllowed, rule-is}
+use Rattle.pacer.proofs.Sends.{IsPlanned, IsForPlanned, paced-planned}
 use Rattle.send_core.specs.declared.call.Call.{Call}
 use Rattle.send_core.specs.declared.call.Call.TheVariants.{Enqueue, Pace, Report, Configure}
 use Rattle.send_core.specs.declared.call.Reply.{Reply}

@@ -11,7 +11,7 @@ use Rattle.gcc_units.specs.Listed.{Listed}
 use Rattle.gcc_units.proofs.Walk.{flat_map-push}
 use Rattle.pace_queues.specs.declared.ticket.Ticket.{Ticket}
 use Rattle.pace_queues.specs.Waiting.{next}
-use Rattle.pace_queues.specs.Laws.{next-is_one}
+use Rattle.pace_queues.proofs.Waiting.{next-is_one}
 use Rattle.pacer.specs.declared.sent.Sent.{Sent}
 use Rattle.pacer.specs.Pace.{names, unsent, index_of}
 use Rattle.rtp_wire.specs.declared.packet.WireFault.{WireFault}

@@ -18,7 +18,7 @@ use Rattle.twcc_report.specs.declared.fault.ReportFault.{ReportFault}
 use Rattle.twcc_report.specs.Spelling.{Feedback}
 use Rattle.twcc_report.specs.Reading.{read_of}
 use Rattle.pacer.specs.declared.sent.Sent.{Sent}
-use Rattle.pacer.specs.Sends.{paced-few}
+use Rattle.pacer.proofs.Sends.{paced-few}
 use Rattle.send_core.specs.declared.call.Call.{Call}
 use Rattle.send_core.specs.declared.call.Call.TheVariants.{Enqueue, Pace, Report, Configure}
 use Rattle.send_core.specs.declared.call.Reply.TheVariants.{Accepted, Refused}

@@ -9,9 +9,10 @@ use Rattle.pacer.specs.declared.sent.Sent.{Sent}
 use Rattle.pacer.specs.declared.sent.Kind.{Kind}
 use Rattle.pacer.specs.declared.sent.Kind.TheVariants as kind
 use Rattle.pacer.specs.declared.course.Terms.{Terms}
-use Rattle.pacer.specs.Course.{HasRoom}
-use Rattle.pacer.specs.Pace.{Standing, rule, after, then_on, paced, paced-zero, paced-suc}
-use Rattle.pacer.specs.Ruled.{probe-due}
+use Rattle.pacer.specs.Course.{HasRoom, IsSmallRecord}
+use Rattle.pacer.specs.Pace.{Standing, rule, after, then_on, paced}
+use Rattle.pacer.proofs.Pace.{paced-zero, paced-suc}
+use Rattle.pacer.proofs.Ruled.{probe-due}
 use Rattle.send_core.specs.declared.call.Call.TheVariants as call_kind
 use Rattle.send_core.specs.declared.call.Cause.TheVariants as cause_kind
 use Rattle.send_core.specs.declared.call.Entry.{Entry}
@@ -22,7 +23,6 @@ use Rattle.send_core.proofs.LawsKept.{Adds, adds}
 use Rattle.send_core.specs.History.{later, now, sent}
 use Rattle.send_core.specs.Reports.{cluster_deeds}
 use Rattle.send_core.specs.Reply.{reply, terms_at, standing_at}
-use Rattle.pacer.specs.Sends.{IsSmallRecord}
 use Rattle.steered_sender.specs.declared.steering.Steering.{Steering}
 use Rattle.steered_sender.specs.Following.{IsForDue, AreForDue}
 use Rattle.steered_sender.specs.Steps.{Steers}

@@ -1,5 +1,5 @@
 use Rattle.pacer.specs.Course.{standing}
-use Rattle.pacer.specs.Ruled.{rule-is, size-small, probe-due}
+use Rattle.pacer.proofs.Ruled.{rule-is, size-small, probe-due}
 use Rattle.pacer.proofs.Carrying.{fit-after, lowered-by, probed}
 use Rattle.pacer.proofs.course.carry_out.Goals as goal
 

@@ -1,5 +1,5 @@
 use Rattle.std.proofs.Common.{◌≡◌, sym, None}
-use Rattle.pacer.specs.Records.{unsent-no_index}
+use Rattle.pacer.proofs.Records.{unsent-no_index}
 use Rattle.pacer.proofs.Taking.{taken, none-of}
 use Rattle.pacer.proofs.course.take_out.Goals as goal
 

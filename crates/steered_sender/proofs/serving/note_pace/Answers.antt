@@ -1,8 +1,7 @@
 use Rattle.std.proofs.Common.{◌≡◌, ℕ, ◌≤◌, ◌==◌, true, false, Option, None, Some, List, [], ◌∷◌, ◌++◌, All, length, refl, sym, ◌∙◌, ap, subst}
 use Rattle.probe_clusters.specs.Deeds as probes
 use Rattle.pacer.specs.declared.sent.Sent.{Sent}
-use Rattle.pacer.specs.Course.{HasRoom, probes_of}
-use Rattle.pacer.specs.Sends.{IsSmallRecord}
+use Rattle.pacer.specs.Course.{HasRoom, probes_of, IsSmallRecord}
 use Rattle.send_core.specs.declared.call.Call.TheVariants as call
 use Rattle.send_core.specs.declared.call.Reply.{Reply}
 use Rattle.send_core.specs.History.{entry}

@@ -4,7 +4,7 @@ use Rattle.std.proofs.lemmas.Int.{ints, clamps}
 use Rattle.gcc_units.specs.declared.limits.TheConstants.{GREATEST_RATE}
 use Rattle.pace_budget.specs.declared.bucket.TheConstants.{GREATEST_WINDOW}
 use Rattle.pace_budget.specs.Level.{Advance}
-use Rattle.pace_budget.specs.Steps.{StandsFor-step}
+use Rattle.pace_budget.proofs.Steps.{StandsFor-step}
 use Rattle.pace_budget.proofs.bucket.Bucket.advance.Goals as goal
 
 pub invariant_of-self : goal.invariant_of-self

@@ -1,7 +1,7 @@
 use Rattle.std.proofs.Common.{rules}
 use Rattle.std.proofs.lemmas.Int.{ints}
 use Rattle.pace_budget.specs.Level.{Probe}
-use Rattle.pace_budget.specs.Steps.{StandsFor-step}
+use Rattle.pace_budget.proofs.Steps.{StandsFor-step}
 use Rattle.pace_budget.proofs.bucket.Bucket.spend_probe.Goals as goal
 
 pub returns-clause-stands : goal.returns-clause-stands

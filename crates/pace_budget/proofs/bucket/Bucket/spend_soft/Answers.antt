@@ -2,7 +2,7 @@ use Rattle.std.proofs.Common.{◌≡◌, ℕ, ℤ, pos, negsuc, ◌-ℤ◌, ◌*
 use Rattle.std.proofs.lemmas.Int.{ints, clamps}
 use Rattle.std.specs.Int.{int_min, int_max}
 use Rattle.pace_budget.specs.Level.{Soft, soft_amount, whole}
-use Rattle.pace_budget.specs.Steps.{StandsFor-step}
+use Rattle.pace_budget.proofs.Steps.{StandsFor-step}
 use Rattle.pace_budget.proofs.bucket.Bucket.spend_soft.Goals as goal
 
 -- the lesser of the size and of what stands above the floor comes off

@@ -1,5 +1,5 @@
 use Rattle.std.proofs.Common.{sym}
-use Rattle.pace_queues.specs.Laws.{next-is_least, next-is_none}
+use Rattle.pace_queues.proofs.Waiting.{next-is_least, next-is_none}
 use Rattle.pace_queues.proofs.Rings.{next-is_first}
 use Rattle.pace_queues.proofs.Changes.{list-is}
 use Rattle.pace_queues.proofs.queues.Queues.head.Goals as goal

@@ -1,6 +1,6 @@
 use Rattle.std.proofs.Common.{◌∙◌, sym}
 use Rattle.gcc_units.specs.declared.limits.TheConstants.{MOST_SENDS}
-use Rattle.pacer.specs.Sends.{paced-few}
+use Rattle.pacer.proofs.Sends.{paced-few}
 use Rattle.pacer.specs.State.{terms, standing}
 use Rattle.pacer.proofs.Taking.{none-of}
 use Rattle.pacer.proofs.Room.{closed-low, closed-few}

@@ -3,7 +3,7 @@ use Rattle.sent_history.specs.Events.{Event, packets}
 use Rattle.sent_history.specs.Kept as history_kept
 use Rattle.pacer.specs.declared.sent.Sent.{Sent}
 use Rattle.pacer.specs.Pace.{paced}
-use Rattle.pacer.specs.Sends.{paced-few}
+use Rattle.pacer.proofs.Sends.{paced-few}
 use Rattle.pacer.specs.State.{State, terms, standing}
 use Rattle.send_core.specs.declared.parts.Parts.{Parts}
 use Rattle.send_core.specs.Recording.{TakesSent}

@@ -5,7 +5,7 @@ use Rattle.std.proofs.lemmas.Bool.Decides.{nat_tests}
 use Rattle.gcc_units.specs.declared.limits.TheConstants.{PADDING_PACKET, GREATEST_PACKET}
 use Rattle.pace_queues.specs.declared.ticket.Ticket.{Ticket}
 use Rattle.pace_queues.specs.Waiting.{next}
-use Rattle.pace_queues.specs.Laws.{next-is_one}
+use Rattle.pace_queues.proofs.Waiting.{next-is_one}
 use Rattle.probe_clusters.specs.Clusters.{due}
 use Rattle.pacer.specs.declared.sent.Sent.{Sent}
 use Rattle.pacer.specs.declared.sent.Kind.{Kind}

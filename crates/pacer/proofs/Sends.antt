@@ -1,12 +1,11 @@
 -- What holds of all sends of one pace.
 use Rattle.std.proofs.Common.{◌≡◌, ℕ, suc, zero, ◌<◌, ◌≤◌, Bool, true, false, not, cond, Option, None, Some, IfSome, List, [], ◌∷◌, ◌++◌, length, All, fold, slice_get, refl, sym, ◌∙◌, ap, subst, arith}
 use Rattle.std.proofs.lemmas.List.Elements.{All-nil, All-cons, All-filter}
-use Rattle.gcc_units.specs.declared.limits.TheConstants.{GREATEST_PACKET}
 use Rattle.pace_budget.specs.Steps.{step}
 use Rattle.pace_budget.specs.Spans.{Opens}
 use Rattle.pace_queues.specs.declared.ticket.Ticket.{Ticket}
 use Rattle.pace_queues.specs.Waiting.{next, HasIndexBelow}
-use Rattle.pace_queues.specs.Laws.{next-is_one}
+use Rattle.pace_queues.proofs.Waiting.{next-is_one}
 use Rattle.probe_clusters.specs.declared.cluster.Cluster.{Cluster}
 use Rattle.probe_clusters.specs.Clusters.{due, due_at, due_as, current, changed, changed_where}
 use Rattle.probe_clusters.specs.Cluster.{is_due}
@@ -14,9 +13,10 @@ use Rattle.pacer.specs.declared.sent.Sent.{Sent}
 use Rattle.pacer.specs.declared.sent.Kind.{Kind}
 use Rattle.pacer.specs.declared.sent.Kind.TheVariants as kind
 use Rattle.pacer.specs.declared.course.Terms.{Terms}
-use Rattle.pacer.specs.Course.{IsSmall}
-use Rattle.pacer.specs.Pace.{Standing, names, IsBelow, NamesBelow, index_of, deed_by, clusters_by, rule, after, then_on, paced, paced-zero, paced-suc}
-use Rattle.pacer.specs.Ruled.{IsAllowed, rule-is, size-small}
+use Rattle.pacer.specs.Course.{IsSmall, IsSmallRecord}
+use Rattle.pacer.specs.Pace.{Standing, names, IsBelow, NamesBelow, index_of, deed_by, clusters_by, rule, after, then_on, paced}
+use Rattle.pacer.proofs.Pace.{paced-zero, paced-suc}
+use Rattle.pacer.proofs.Ruled.{IsAllowed, rule-is, size-small}
 use Rattle.pacer.specs.LeftByRecords.{spending}
 
 -- one induction for all: what holds of a send at each standing that may come holds of every send
@@ -54,9 +54,6 @@ paced-known most count terms s all =
         by_next : (o : Option Ticket) → IfSome o (HasIndexBelow count) → r.index ≡ index_of o → NamesBelow count r
         by_next None h is = subst (IsBelow count) (sym is) tt
         by_next (Some u) h is = subst (IsBelow count) (sym is) h
-
-abbrev pub IsSmallRecord : Sent → Type 0
-IsSmallRecord r = r.size ≤ GREATEST_PACKET
 
 -- none is too large
 pub paced-small : (most : ℕ) (terms : Terms) (s : Standing) → All IsSmall s.waiting → All IsSmallRecord (paced most terms s)

@@ -2,3 +2,4 @@ mod Signalling
 mod Reports
 mod Noting
 mod Taking
+pub mod Until

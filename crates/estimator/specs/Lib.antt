@@ -2,4 +2,3 @@ pub mod Signals
 pub mod Report
 pub mod Est
 pub mod Kept
-pub mod Laws

@@ -20,7 +20,7 @@ use Rattle.estimator.specs.Signals.{IsSentBy}
 use Rattle.estimator.specs.Report.{found, NamesPlanned}
 use Rattle.estimator.specs.Est.{Est, judged_est, estimate}
 use Rattle.estimator.specs.Kept.{IsInRange, IsUntil, TakesReport}
-use Rattle.estimator.specs.Laws.{until-later}
+use Rattle.estimator.proofs.Until.{until-later}
 use Rattle.estimator.specs.Kept as estimator
 use Rattle.gcc_units.specs.declared.shared_types.Share.{Share}
 use Rattle.gcc_units.specs.declared.shared_types.Signal.{Signal}

@@ -25,7 +25,7 @@ use Rattle.sent_history.specs.Laws.{judged_of_packets, credited_few}
 use Rattle.probe_clusters.specs.declared.probes.Outcome.{Outcome}
 use Rattle.probe_clusters.specs.Deeds.{Deed, Plan, Note, Send, rate_by, rates, clusters_from, clusters, is_send, is_note, IsSizeWithin, IsWithin, takings}
 use Rattle.estimator.specs.Kept.{IsUntil}
-use Rattle.estimator.specs.Laws.{until-start, until-later, until-judged, until-set}
+use Rattle.estimator.proofs.Until.{until-start, until-later, until-judged, until-set}
 use Rattle.estimator.specs.Est.{Est, found}
 use Rattle.pacer.specs.declared.sent.Sent.{Sent}
 use Rattle.pacer.specs.declared.sent.Kind.{Kind}

@@ -3,4 +3,3 @@ pub mod Streams
 pub mod Order
 pub mod Shares
 pub mod Breakpoints
-pub mod Laws

@@ -1,4 +1,4 @@
-use Rattle.allocator.specs.Laws.{found-changed, IsStreamSet-changed}
+use Rattle.allocator.proofs.Changed.{found-changed, IsStreamSet-changed}
 use Rattle.allocator.proofs.laws.changes_are_of_a_map.Goals as goal
 
 pub returns-clause-map : goal.returns-clause-map

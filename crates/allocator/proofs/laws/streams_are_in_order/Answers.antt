@@ -1,4 +1,4 @@
-use Rattle.allocator.specs.Laws.{in_order_sorts, IsPermutation-in_order}
+use Rattle.allocator.proofs.InOrder.{in_order_sorts, IsPermutation-in_order}
 use Rattle.allocator.proofs.laws.streams_are_in_order.Goals as goal
 
 pub returns-clause-same : goal.returns-clause-same

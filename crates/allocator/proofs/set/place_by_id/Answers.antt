@@ -1,5 +1,5 @@
 use Rattle.allocator.specs.Streams.{has_lesser_id}
-use Rattle.allocator.specs.Laws.{put_is}
+use Rattle.allocator.proofs.Placed.{put_is}
 use Rattle.allocator.proofs.set.place_by_id.Goals as goal
 
 pub returns : goal.returns

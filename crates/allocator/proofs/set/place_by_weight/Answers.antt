@@ -1,5 +1,5 @@
 use Rattle.allocator.specs.Order.{goes_before}
-use Rattle.allocator.specs.Laws.{put_is}
+use Rattle.allocator.proofs.Placed.{put_is}
 use Rattle.allocator.proofs.set.place_by_weight.Goals as goal
 
 pub returns : goal.returns

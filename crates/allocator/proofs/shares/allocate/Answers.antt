@@ -3,7 +3,7 @@ use Rattle.std.proofs.lemmas.List.{take_all}
 use Rattle.gcc_units.specs.declared.shared_types.Share.{Share}
 use Rattle.allocator.specs.declared.stream.Stream.{Stream}
 use Rattle.allocator.specs.Shares.{share_in, spread}
-use Rattle.allocator.specs.Laws.{ids-shares, rising-shares}
+use Rattle.allocator.proofs.RisingShares.{ids-shares, rising-shares}
 use Rattle.allocator.proofs.Levels.{shares_is}
 use Rattle.allocator.proofs.shares.allocate.Goals as goal
 

@@ -2,7 +2,7 @@ use Rattle.std.proofs.Common.{◌≡◌, ap, length, arith, subst, sym}
 use Rattle.allocator.specs.Streams.{IsSound}
 use Rattle.allocator.specs.Order.{in_order}
 use Rattle.allocator.specs.Breakpoints.{AreBreakpoints}
-use Rattle.allocator.specs.Laws.{length-in_order, All-in_order}
+use Rattle.allocator.proofs.InOrder.{length-in_order, All-in_order}
 use Rattle.allocator.proofs.Walk.{breakpoints_within, length-breakpoints}
 use Rattle.allocator.proofs.set.StreamSet.breakpoints.Goals as goal
 

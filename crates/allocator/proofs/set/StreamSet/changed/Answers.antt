@@ -4,7 +4,8 @@ use Rattle.gcc_units.specs.declared.limits.TheConstants.{MOST_STREAMS}
 use Rattle.allocator.specs.Streams.{changed, IsSound, IsStreamSet}
 use Rattle.allocator.specs.Order.{in_order}
 use Rattle.allocator.specs.Breakpoints.{AreBreakpoints}
-use Rattle.allocator.specs.Laws.{IsStreamSet-changed, changed_same, All-in_order}
+use Rattle.allocator.proofs.Changed.{IsStreamSet-changed, changed_same}
+use Rattle.allocator.proofs.InOrder.{All-in_order}
 use Rattle.allocator.proofs.set.StreamSet.changed.Goals as goal
 
 pub breakpoints_of-requires : goal.breakpoints_of-requires

@@ -2,7 +2,7 @@ use Rattle.std.proofs.Common.{◌≡◌, ap, ◌∙◌, length, arith}
 use Rattle.std.proofs.lemmas.List.Elements.{All-same}
 use Rattle.allocator.specs.Streams.{IsSound}
 use Rattle.allocator.specs.Order.{in_order}
-use Rattle.allocator.specs.Laws.{length-in_order, All-in_order}
+use Rattle.allocator.proofs.InOrder.{length-in_order, All-in_order}
 use Rattle.allocator.proofs.set.StreamSet.in_order.Goals as goal
 
 pub returns-clause-sound : goal.returns-clause-sound

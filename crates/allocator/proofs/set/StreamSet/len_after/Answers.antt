@@ -1,5 +1,5 @@
 use Rattle.std.proofs.Common.{◌∙◌}
-use Rattle.allocator.specs.Laws.{counted_is}
+use Rattle.allocator.proofs.Changed.{counted_is}
 use Rattle.allocator.proofs.set.StreamSet.len_after.Goals as goal
 
 pub returns : goal.returns

@@ -1,5 +1,6 @@
 use Rattle.std.proofs.Common.{refl}
-use Rattle.allocator.specs.Laws.{IsStreamSet-none, in_order-none}
+use Rattle.allocator.proofs.Changed.{IsStreamSet-none}
+use Rattle.allocator.proofs.InOrder.{in_order-none}
 use Rattle.allocator.proofs.Walk.{AreBreakpoints-none}
 use Rattle.allocator.proofs.set.StreamSet.new.Goals as goal
 

@@ -1,82 +1,13 @@
--- What follows of the words of `Streams` and `Order`: a change is one of a map from ids to streams, and sets and orders are what they are called.
-use Rattle.std.proofs.Common.{◌≡◌, inl, inr, ℕ, suc, ◌+◌, ◌<◌, ◌≤◌, ◌==◌, ◌&&◌, ◌||◌, Bool, true, false, not, cond, Option, None, Some, List, [], ◌∷◌, ◌++◌, length, map, All, AllPairs, filter, fold, refl, ap, sym, ◌∙◌, subst, arith, unwrap_or, lit≤}
-use Rattle.std.specs.List.{position, position_or_len, insert}
+-- A change of a set is one of a map from ids to streams, and leaves a set.
+use Rattle.std.proofs.Common.{◌≡◌, ℕ, ◌+◌, ◌≤◌, ◌==◌, ◌&&◌, ◌||◌, Bool, true, false, not, cond, Option, None, Some, List, [], ◌∷◌, ◌++◌, length, map, All, AllPairs, filter, fold, refl, ap, sym, ◌∙◌, subst, arith, lit≤}
 use Rattle.std.proofs.lemmas.Bool.Decides.{nat_tests}
-use Rattle.std.proofs.lemmas.List.Elements.{All-nil, All-cons, All-head, All-tail, All-filter, All-weaker, filter_passes, All-map}
-use Rattle.std.proofs.lemmas.List.Sums.{AllPass-from_list_all, prefix_len-le-length}
-use Rattle.std.proofs.lemmas.List.{length-map, append-nil}
-use Rattle.std.specs.List.Sorted.{IsPermutation}
-use Rattle.std.proofs.lemmas.List.Sorted.{IsPermutation-refl, IsPermutation-insert, IsPermutation-trans, IsPermutation-middle, IsPermutation-append_left}
-use Rattle.std.proofs.lemmas.List.Kept.{AllPairs-filter, AllPairs-cons}
+use Rattle.std.proofs.lemmas.List.Elements.{All-nil, All-head, All-tail, All-filter, All-weaker, filter_passes}
+use Rattle.std.proofs.lemmas.List.Sums.{AllPass-from_list_all}
+use Rattle.std.proofs.lemmas.List.Kept.{AllPairs-filter}
 use Rattle.gcc_units.specs.declared.limits.TheConstants.{MOST_STREAMS}
 use Rattle.allocator.specs.declared.stream.Stream.{Stream}
 use Rattle.allocator.specs.Streams.{IsSound, is_sound, are_sound, id_of, has_id, has_number, all_differ, ids_differ, found, found_after, placed, has_lesser_id, stays, changed, HasLesserId, IsStreamSet}
-use Rattle.allocator.specs.Order.{goes_before, GoesBefore, in_order}
-use Rattle.gcc_units.specs.declared.shared_types.Share.{Share}
-use Rattle.allocator.specs.Shares.{shares, given, share_in, share_id, HasLesserShareId}
-
--- a place is before the first that the stream goes before
-pub placed_is : (before : Stream → Stream → Bool) (xs : List Stream) (x : Stream) → insert xs (position_or_len (before x) xs) x ≡ placed before xs x
-placed_is before [] x = refl
-placed_is before (y ∷ ys) x = at_test before y ys x (before x y) refl (placed_is before ys x)
-  where
-    at_test : (before : Stream → Stream → Bool) (y : Stream) (ys : List Stream) (x : Stream) (b : Bool) → before x y ≡ b
-        → insert ys (position_or_len (before x) ys) x ≡ placed before ys x
-        → insert (y ∷ ys) (cond (not b) (1 + position_or_len (before x) ys) 0) x ≡ cond b (x ∷ y ∷ ys) (y ∷ placed before ys x)
-    at_test before y ys x true e h = refl
-    at_test before y ys x false e h =
-        let one : 1 + position_or_len (before x) ys ≡ suc (position_or_len (before x) ys) = omega arith in
-        rw one (ap (λ zs. y ∷ zs) h)
-
--- the place as the code asks for it
-pub place_is : (p : Stream → Bool) (xs : List Stream) → unwrap_or (position p xs) (length xs) ≡ position_or_len p xs
-place_is p xs = grind (arith, nat_tests, prefix_len-le-length (λ x. not (p x)) xs)
-
-pub put_is : (before : Stream → Stream → Bool) (xs ys : List Stream) (x : Stream) (place : Option ℕ) → ys ≡ xs → place ≡ position (before x) ys
-    → insert xs (unwrap_or place (length xs)) x ≡ placed before xs x
-put_is before xs ys x place same e =
-    let at_xs : place ≡ position (before x) xs = e ∙ ap (position (before x)) same in
-    let at_first : unwrap_or place (length xs) ≡ position_or_len (before x) xs = ap (λ o. unwrap_or o (length xs)) at_xs ∙ place_is (before x) xs in
-    ap (λ k. insert xs k x) at_first ∙ placed_is before xs x
-
-length-placed : (before : Stream → Stream → Bool) (xs : List Stream) (x : Stream) → length (placed before xs x) ≡ suc (length xs)
-length-placed before [] x = refl
-length-placed before (y ∷ ys) x = at_test before y ys x (before x y) (length-placed before ys x)
-  where
-    at_test : (before : Stream → Stream → Bool) (y : Stream) (ys : List Stream) (x : Stream) (b : Bool)
-        → length (placed before ys x) ≡ suc (length ys) → length (cond b (x ∷ y ∷ ys) (y ∷ placed before ys x)) ≡ suc (suc (length ys))
-    at_test before y ys x true h = refl
-    at_test before y ys x false h = ap suc h
-
-length-placed_all : (before : Stream → Stream → Bool) (xs ys : List Stream) → length (fold (placed before) xs ys) ≡ length xs + length ys
-length-placed_all before xs [] = omega arith
-length-placed_all before xs (y ∷ ys) =
-    omega (arith, length-placed_all before (placed before xs y) ys, length-placed before xs y)
-
--- what holds of each
-All-placed : (P : Stream → Type 0) (before : Stream → Stream → Bool) (xs : List Stream) (x : Stream) → P x → All P xs → All P (placed before xs x)
-All-placed P before [] x p all = All-cons P x [] p all
-All-placed P before (y ∷ ys) x p all =
-    at_test P before y ys x (before x y) p all (All-placed P before ys x p (All-tail P y ys all))
-  where
-    at_test : (P : Stream → Type 0) (before : Stream → Stream → Bool) (y : Stream) (ys : List Stream) (x : Stream) (b : Bool)
-        → P x → All P (y ∷ ys) → All P (placed before ys x) → All P (cond b (x ∷ y ∷ ys) (y ∷ placed before ys x))
-    at_test P before y ys x true p all h = All-cons P x (y ∷ ys) p all
-    at_test P before y ys x false p all h = All-cons P y (placed before ys x) (All-head P y ys all) h
-
-All-placed_all : (P : Stream → Type 0) (before : Stream → Stream → Bool) (xs ys : List Stream) → All P xs → All P ys → All P (fold (placed before) xs ys)
-All-placed_all P before xs [] all more = all
-All-placed_all P before xs (y ∷ ys) all more =
-    All-placed_all P before (placed before xs y) ys (All-placed P before xs y (All-head P y ys more) all) (All-tail P y ys more)
-
--- as many are in order, and what holds of each holds there
-pub length-in_order : (streams : List Stream) → length (in_order streams) ≡ length streams
-unfolding in_order
-length-in_order streams = omega (arith, length-placed_all goes_before [] streams)
-
-pub All-in_order : (P : Stream → Type 0) (streams : List Stream) → All P streams → All P (in_order streams)
-unfolding in_order
-All-in_order P streams all = All-placed_all P goes_before [] streams (All-nil P) all
+use Rattle.allocator.proofs.Placed.{length-placed_all, All-placed, All-placed_all, Sorts, ComesAfter, AllPairs-placed}
 
 -- how many there are after a change
 pub length-changed : (streams set : List Stream) (removed : List ℕ)
@@ -109,10 +40,6 @@ sound-are_sound streams h = All-weaker (λ s. is_sound s ≡ true) IsSound sound
 -- no streams
 pub IsStreamSet-none : IsStreamSet []
 IsStreamSet-none = record { few = lit≤ tt; sound = All-nil IsSound; rising = λ i j d l m. absurd (omega arith) }
-
-pub in_order-none : in_order [] ≡ []
-unfolding in_order
-in_order-none = refl
 
 -- tests that are made of others
 either-false : (a b : Bool) → (a || b) ≡ false → (a ≡ false) × (b ≡ false)
@@ -184,38 +111,6 @@ kept_apart set removed streams =
 placed_apart : (s : Stream) (ss xs : List Stream) → all_differ (map id_of (s ∷ ss)) ≡ true → All (IsApart (s ∷ ss)) xs → All (IsApart ss) (placed has_lesser_id xs s)
 placed_apart s ss xs differ apart =
     All-placed (IsApart ss) has_lesser_id xs s (first_differs s ss differ) (All-weaker (IsApart (s ∷ ss)) (IsApart ss) (apart_from_rest s ss) xs apart)
-
--- pairs of a list that has a first
-AllPairs-head : (R : Stream → Stream → Type 0) (s : Stream) (ss : List Stream) → AllPairs R (s ∷ ss) → All (R s) ss
-AllPairs-head R s ss pairs = λ k d l. pairs 0 (suc k) d (omega arith) (omega arith)
-
-AllPairs-tail : (R : Stream → Stream → Type 0) (s : Stream) (ss : List Stream) → AllPairs R (s ∷ ss) → AllPairs R ss
-AllPairs-tail R s ss pairs = λ i j d l m. pairs (suc i) (suc j) d (omega arith) (omega arith)
-
--- what an order and its test have to do with each other
-record Sorts (R : Stream → Stream → Type 0) (before : Stream → Stream → Bool) : Type 0 where
-  then : (a b c : Stream) → R a b → R b c → R a c
-  is : (a b : Stream) → before a b ≡ true → R a b
-
--- x, if it does not go before it, comes after it
-abbrev ComesAfter : (Stream → Stream → Type 0) → (Stream → Stream → Bool) → Stream → Stream → Type 0
-ComesAfter R before x y = before x y ≡ false → R y x
-
-AllPairs-placed : (R : Stream → Stream → Type 0) (before : Stream → Stream → Bool) (xs : List Stream) (x : Stream) → Sorts R before
-    → All (ComesAfter R before x) xs → AllPairs R xs → AllPairs R (placed before xs x)
-AllPairs-placed R before [] x sorts after pairs = AllPairs-cons R x [] (All-nil (R x)) pairs
-AllPairs-placed R before (y ∷ ys) x sorts after pairs =
-    at_test (before x y) refl (AllPairs-placed R before ys x sorts (All-tail (ComesAfter R before x) y ys after) (AllPairs-tail R y ys pairs))
-  where
-    at_test : (b : Bool) → before x y ≡ b → AllPairs R (placed before ys x) → AllPairs R (cond b (x ∷ y ∷ ys) (y ∷ placed before ys x))
-    at_test true e h =
-        AllPairs-cons R x (y ∷ ys)
-        (All-cons (R x) y ys (sorts.is x y e) (All-weaker (R y) (R x) (λ z r. sorts.then x y z (sorts.is x y e) r) ys (AllPairs-head R y ys pairs)))
-        pairs
-    at_test false e h =
-        AllPairs-cons R y (placed before ys x)
-        (All-placed (R y) before ys x (All-head (ComesAfter R before x) y ys after e) (AllPairs-head R y ys pairs))
-        h
 
 by_id_sorts : Sorts HasLesserId has_lesser_id
 by_id_sorts = record { then = λ a b c r q. omega arith; is = λ a b h. grind (arith, nat_tests) }
@@ -325,78 +220,3 @@ found-changed streams set removed id differ =
         → cond b (found set id) (found (filter (stays set removed) streams) id) ≡ cond b (found set id) (cond (has_number removed id) None (found streams id))
     at_test true e = refl
     at_test false e = found-kept streams set removed id e
-
--- the order of allocation
-GoesBefore-then : (a b c : Stream) → GoesBefore a b → GoesBefore b c → GoesBefore a c
-GoesBefore-then a b c (inl h) (inl k) = inl (omega arith)
-GoesBefore-then a b c (inl h) (inr k) = inl (omega arith)
-GoesBefore-then a b c (inr h) (inl k) = inl (omega arith)
-GoesBefore-then a b c (inr h) (inr k) = inr (omega arith, omega arith)
-
-goes_before-is : (a b : Stream) → goes_before a b ≡ true → GoesBefore a b
-goes_before-is a b h = grind (arith, nat_tests)
-
-by_weight_sorts : Sorts GoesBefore goes_before
-by_weight_sorts = record { then = GoesBefore-then; is = goes_before-is }
-
-after_by_weight : (x y : Stream) → y.id < x.id → ComesAfter GoesBefore goes_before x y
-after_by_weight x y lesser h = grind (arith, nat_tests)
-
-order-placed_all : (xs rest : List Stream) → All (λ y. All (HasLesserId y) rest) xs → AllPairs HasLesserId rest → AllPairs GoesBefore xs
-    → AllPairs GoesBefore (fold (placed goes_before) xs rest)
-order-placed_all xs [] lesser rising pairs = pairs
-order-placed_all xs (s ∷ ss) lesser rising pairs =
-    order-placed_all (placed goes_before xs s) ss
-    (All-placed (λ y. All (HasLesserId y) ss) goes_before xs s (AllPairs-head HasLesserId s ss rising)
-    (All-weaker (λ y. All (HasLesserId y) (s ∷ ss)) (λ y. All (HasLesserId y) ss) (λ y h. All-tail (HasLesserId y) s ss h) xs lesser))
-    (AllPairs-tail HasLesserId s ss rising)
-    (AllPairs-placed GoesBefore goes_before xs s by_weight_sorts
-    (All-weaker (λ y. All (HasLesserId y) (s ∷ ss)) (ComesAfter GoesBefore goes_before s) (λ y h. after_by_weight s y (All-head (HasLesserId y) s ss h)) xs lesser)
-    pairs)
-
--- in the order of allocation each stream goes before all later ones
-pub in_order_sorts : (streams : List Stream) → AllPairs HasLesserId streams → AllPairs GoesBefore (in_order streams)
-unfolding in_order
-in_order_sorts streams rising =
-    order-placed_all [] streams (All-nil (λ y. All (HasLesserId y) streams)) rising (λ i j d l m. absurd (omega arith))
-
--- and it has the same streams
-IsPermutation-placed : (before : Stream → Stream → Bool) (xs : List Stream) (x : Stream) → IsPermutation (x ∷ xs) (placed before xs x)
-IsPermutation-placed before xs x =
-    subst (IsPermutation (x ∷ xs)) (placed_is before xs x) (IsPermutation-insert xs (position_or_len (before x) xs) x)
-
-IsPermutation-placed_all : (before : Stream → Stream → Bool) (xs ys : List Stream) → IsPermutation (xs ++ ys) (fold (placed before) xs ys)
-IsPermutation-placed_all before xs [] = subst (IsPermutation (xs ++ [])) (append-nil xs) (IsPermutation-refl (xs ++ []))
-IsPermutation-placed_all before xs (y ∷ ys) =
-    IsPermutation-trans (xs ++ y ∷ ys) (y ∷ (xs ++ ys)) (fold (placed before) (placed before xs y) ys) (IsPermutation-middle xs y ys)
-    (IsPermutation-trans (y ∷ (xs ++ ys)) (placed before xs y ++ ys) (fold (placed before) (placed before xs y) ys)
-    (IsPermutation-append_left ys (y ∷ xs) (placed before xs y) (IsPermutation-placed before xs y))
-    (IsPermutation-placed_all before (placed before xs y) ys))
-
-pub IsPermutation-in_order : (streams : List Stream) → IsPermutation streams (in_order streams)
-unfolding in_order
-IsPermutation-in_order streams = IsPermutation-placed_all goes_before [] streams
-
--- shares are one for each stream, in rising order of id
-ids-shares_in : (given : List Share) (streams : List Stream) → map share_id (map (share_in given) streams) ≡ map id_of streams
-ids-shares_in given [] = refl
-ids-shares_in given (s ∷ ss) = ap (λ ids. s.id ∷ ids) (ids-shares_in given ss)
-
-pub ids-shares : (total : ℕ) (streams : List Stream) → map share_id (shares total streams) ≡ map id_of streams
-unfolding shares
-ids-shares total streams = ids-shares_in (given total (in_order streams)) streams
-
-rising-shares_in : (given : List Share) (streams : List Stream) → AllPairs HasLesserId streams → AllPairs HasLesserShareId (map (share_in given) streams)
-rising-shares_in given [] rising = λ i j d l m. absurd (omega arith)
-rising-shares_in given (s ∷ ss) rising =
-    AllPairs-cons HasLesserShareId (share_in given s) (map (share_in given) ss)
-    (All-map (HasLesserShareId (share_in given s)) (share_in given) ss (AllPairs-head HasLesserId s ss rising))
-    (rising-shares_in given ss (AllPairs-tail HasLesserId s ss rising))
-
-pub rising-shares : (total : ℕ) (streams : List Stream) → AllPairs HasLesserId streams → AllPairs HasLesserShareId (shares total streams)
-unfolding shares
-rising-shares total streams rising = rising-shares_in (given total (in_order streams)) streams rising
-
-pub length-shares : (total : ℕ) (streams : List Stream) → length (shares total streams) ≡ length streams
-unfolding shares
-length-shares total streams = length-map streams (share_in (given total (in_order streams)))

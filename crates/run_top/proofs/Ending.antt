@@ -12,7 +12,8 @@ use Rattle.send_core.specs.declared.call.Answer.{Answer}
 use Rattle.send_core.specs.declared.call.Entry.{Entry}
 use Rattle.turn_lock.specs.Rule.{by, BeginsWith}
 use Rattle.turn_lock.specs.Seats.{TableId, SeatIs, new_seat, new_seats}
-use Rattle.turn_lock.specs.Names.{names, all_names, names_made, count_of_turn}
+use Rattle.turn_lock.specs.Names.{names, all_names}
+use Rattle.turn_lock.proofs.Names.{names_made, count_of_turn}
 use Rattle.shared_sender.specs.Served.{Answered, answers_of, journal_of, journal_of-answers}
 use Rattle.call_trace.specs.declared.trace.Line.{Line}
 use Rattle.call_trace.specs.Plain.{FitsLine}

@@ -3,7 +3,8 @@ use Rattle.std.proofs.Common.{◌≡◌, ℕ, ◌+◌, ◌*◌, ◌%◌, ◌<◌
 use Rattle.gcc_units.specs.declared.limits.TheConstants.{BOARD_LENGTHS}
 use Rattle.turn_lock.specs.declared.entry.Entry.{Entry}
 use Rattle.turn_lock.specs.Seats.{TableId, SeatIs}
-use Rattle.turn_lock.specs.Names.{names, all_names, all_of_turn, count_of_turn, name_stays}
+use Rattle.turn_lock.specs.Names.{names, all_names}
+use Rattle.turn_lock.proofs.Names.{all_of_turn, count_of_turn, name_stays}
 use Rattle.turn_lock.specs.Adding.{total_of, IsAdding}
 
 total_more : (h : List (Entry ℕ ℕ)) (e : Entry ℕ ℕ) → total_of (h ++ e ∷ []) ≡ total_of h + e.call

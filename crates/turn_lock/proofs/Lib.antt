@@ -4,3 +4,4 @@ pub mod Cuts
 pub mod Calls
 pub mod Lists
 pub mod Adding
+pub mod Names

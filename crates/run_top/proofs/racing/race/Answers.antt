@@ -4,7 +4,8 @@ use Rattle.std.proofs.lemmas.List.FromFn.{length-map-range_with_len}
 use Rattle.send_core.specs.declared.call.Call.{Call}
 use Rattle.send_core.specs.declared.call.Answer.{Answer}
 use Rattle.turn_lock.specs.Seats.{HasEvery, new_seat}
-use Rattle.turn_lock.specs.Names.{names, all_names, all_of_turn, every_of_turn}
+use Rattle.turn_lock.specs.Names.{names, all_names}
+use Rattle.turn_lock.proofs.Names.{all_of_turn, every_of_turn}
 use Rattle.run_top.specs.declared.workers.Worker.{Worker}
 use Rattle.call_trace.specs.declared.trace.Line.{Line}
 use Rattle.run_top.specs.Racing.{AreWorked, keys}

@@ -1,7 +1,7 @@
 use Rattle.std.proofs.Common.{◌≡◌, arith, sym, subst}
 use Rattle.std.specs.List.{All}
 use Rattle.turn_lock.specs.Seats.{HasEvery}
-use Rattle.turn_lock.specs.Names.{all_of_turn, every_of_turn, count_of_turn}
+use Rattle.turn_lock.proofs.Names.{all_of_turn, every_of_turn, count_of_turn}
 use Rattle.turn_lock.proofs.tests.closed.Goals as goal
 
 pub from_vec-requires : goal.from_vec-requires

@@ -1,6 +1,6 @@
 use Rattle.std.proofs.Common.{ap, sym, ◌∙◌}
 use Rattle.turn_lock.specs.Names.{names, all_names}
-use Rattle.turn_lock.specs.Names.{names_made}
+use Rattle.turn_lock.proofs.Names.{names_made}
 use Rattle.turn_lock.proofs.tests.opened.Goals as goal
 
 pub returns-clause-names : goal.returns-clause-names

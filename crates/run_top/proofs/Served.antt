@@ -3,7 +3,8 @@ use Rattle.std.proofs.Common.{◌≡◌, ℕ, ◌<◌, Option, None, Some, List,
 use Rattle.std.proofs.lemmas.Bool.{lt-ltb}
 use Rattle.gcc_units.specs.declared.limits.TheConstants.{MOST_TRACE_BYTES, MOST_CHECK_BYTES}
 use Rattle.run_io.specs.Faults.{Rose}
-use Rattle.run_io.specs.Growth.{Grew, GrewInPart, Grew-nothing}
+use Rattle.run_io.specs.Growth.{Grew, GrewInPart}
+use Rattle.run_io.proofs.Growth.{Grew-nothing}
 use Rattle.call_trace.specs.declared.fault.TheConstants.{TOO_LONG}
 use Rattle.call_trace.specs.Reading.{fault}
 use Rattle.nack_rtx.specs.declared.resender.RtxSettings.{RtxSettings}

@@ -28,3 +28,4 @@ pub mod Framing
 pub mod MadeSends
 pub mod Steadiness
 pub mod MadeLines
+pub mod Ordered

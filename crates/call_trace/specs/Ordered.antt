@@ -1,5 +1,5 @@
 -- The legal history that serves the calls of a trace in the order of its lines.
-use Rattle.std.specs.Prelude.{◌≡◌, ℕ, List, [], ◌∷◌, ◌++◌, refl}
+use Rattle.std.specs.Prelude.{ℕ, List, [], ◌∷◌, ◌++◌}
 use Rattle.send_core.specs.declared.call.Entry.{Entry}
 use Rattle.send_core.specs.History.{entry}
 use Rattle.send_core.specs.Reply.{reply}
@@ -22,18 +22,3 @@ served history (line ∷ lines) = served (history ++ added history line) lines
 
 unfoldable pub ordered : List Line → List Entry
 ordered lines = served [] lines
-
--- a line more is served after those before it
-pub served-push : (history : List Entry) (lines : List Line) (line : Line)
-    → served history (lines ++ line ∷ []) ≡ served history lines ++ added (served history lines) line
-unfolding served
-served-push history [] line = refl
-served-push history (first ∷ lines) line = served-push (history ++ added history first) lines line
-
-pub ordered-push : (lines : List Line) (line : Line) → ordered (lines ++ line ∷ []) ≡ ordered lines ++ added (ordered lines) line
-unfolding ordered
-ordered-push lines line = served-push [] lines line
-
-pub ordered-nil : ordered [] ≡ []
-unfolding ordered served
-ordered-nil = refl

@@ -13,7 +13,8 @@ use Rattle.send_core.specs.History.{entry, sent, sent_by}
 use Rattle.send_core.specs.Reply.{reply}
 use Rattle.call_trace.specs.declared.trace.Line.{Line}
 use Rattle.call_trace.specs.declared.trace.Action.TheVariants.{Ask, Look}
-use Rattle.call_trace.specs.Ordered.{served_by, ordered, ordered-push, ordered-nil}
+use Rattle.call_trace.specs.Ordered.{served_by, ordered}
+use Rattle.call_trace.proofs.Ordered.{ordered-push, ordered-nil}
 use Rattle.reply_text.specs.declared.seen.Seen.{Seen}
 use Rattle.reply_text.specs.Text.{line_of}
 use Rattle.live_sender.specs.Live.{Live, StandsFor}

@@ -9,7 +9,8 @@ use Rattle.send_core.specs.Reply.{reply}
 use Rattle.call_trace.specs.declared.trace.Line.{Line}
 use Rattle.call_trace.specs.declared.trace.Action.{Action}
 use Rattle.call_trace.specs.declared.trace.Action.TheVariants.{Ask, Look}
-use Rattle.call_trace.specs.Ordered.{served_by, served, ordered, ordered-push, added}
+use Rattle.call_trace.specs.Ordered.{served_by, served, ordered, added}
+use Rattle.call_trace.proofs.Ordered.{ordered-push}
 use Rattle.reply_text.specs.declared.seen.Seen.{Seen}
 use Rattle.run_top.specs.Replay.{looked, seen_from}
 

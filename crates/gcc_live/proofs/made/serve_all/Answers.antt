@@ -1,7 +1,8 @@
 use Rattle.std.proofs.Common.{ℕ, ◌≡◌, ◌+◌, List, [], ◌∷◌, ◌++◌, length, sym, ◌∙◌, ap, subst, arith, length-append}
 use Rattle.live_sender.specs.Live.{StandsFor}
 use Rattle.call_trace.specs.declared.trace.Line.{Line}
-use Rattle.call_trace.specs.Ordered.{ordered, ordered-nil}
+use Rattle.call_trace.specs.Ordered.{ordered}
+use Rattle.call_trace.proofs.Ordered.{ordered-nil}
 use Rattle.gcc_live.specs.Summing.{bytes_of}
 use Rattle.gcc_live.proofs.made.serve_all.Goals as goal
 

@@ -1,6 +1,7 @@
 use Rattle.std.proofs.Common.{◌≡◌, ◌≤◌, ◌+◌, ◌++◌, [], ◌∷◌, length, length-append, sym, ◌∙◌, ap, arith}
 use Rattle.gcc_units.specs.Listed.{Listed}
-use Rattle.call_trace.specs.Ordered.{served, ordered-nil}
+use Rattle.call_trace.specs.Ordered.{served}
+use Rattle.call_trace.proofs.Ordered.{ordered-nil}
 use Rattle.reply_text.specs.declared.seen.Seen.{Seen}
 use Rattle.run_top.specs.Replay.{looked, seen_from}
 use Rattle.run_top.proofs.Serving.{ordered-more, seen_from-push, served-few}

@@ -7,7 +7,8 @@ use Rattle.send_core.specs.declared.call.Answer.{Answer}
 use Rattle.send_core.specs.declared.call.Entry.{Entry}
 use Rattle.turn_lock.specs.Rule.{by, BeginsWith}
 use Rattle.turn_lock.specs.Seats.{TableId, SeatIs, HasEvery, new_seat, new_seats}
-use Rattle.shared_sender.specs.Served.{Answered, answers_of, journal_of, journal_of-answers}
+use Rattle.shared_sender.specs.Served.{Answered, answers_of, journal_of}
+use Rattle.shared_sender.proofs.Served.{journal_of-answers}
 use Rattle.nack_rtx.specs.declared.resender.RtxSettings.{RtxSettings}
 use Rattle.resending.specs.declared.server.Server.{Server}
 use Rattle.resending.specs.Serving.{Serving}

@@ -14,7 +14,8 @@ use Rattle.turn_lock.specs.Rule.{by, BeginsWith}
 use Rattle.turn_lock.specs.Seats.{TableId, SeatIs, new_seat, new_seats}
 use Rattle.turn_lock.specs.Names.{names, all_names}
 use Rattle.turn_lock.proofs.Names.{names_made, count_of_turn}
-use Rattle.shared_sender.specs.Served.{Answered, answers_of, journal_of, journal_of-answers}
+use Rattle.shared_sender.specs.Served.{Answered, answers_of, journal_of}
+use Rattle.shared_sender.proofs.Served.{journal_of-answers}
 use Rattle.call_trace.specs.declared.trace.Line.{Line}
 use Rattle.call_trace.specs.Plain.{FitsLine}
 use Rattle.call_trace.specs.Merge.{call_in, asked, calls_of, calls_by, Merges}

@@ -1,5 +1,5 @@
 -- The history of a shared sender: the entries of the journal, each reply with the packets that left with it.
-use Rattle.std.proofs.Common.{◌≡◌, ◌<◌, ℕ, List, [], ◌∷◌, ◌++◌, map, length, take, slice_get, Some, refl, ap}
+use Rattle.std.proofs.Common.{◌≡◌, ◌<◌, ℕ, List, [], ◌∷◌, ◌++◌, map, length, take, slice_get, Some}
 use Rattle.gcc_units.specs.Walk.{each_by}
 use Rattle.gcc_units.specs.declared.limits.TheConstants.{MOST_ENTRIES}
 use Rattle.rtp_wire.specs.Wires.{bare_wires}
@@ -35,14 +35,6 @@ entry_of e = entry e.caller e.call e.reply.reply
 -- the journal without the packets
 abbrev pub journal_of : List Answered → List Entry
 journal_of history = map entry_of history
-
-journal_from : (before xs : List Entry) → journal_of (each_by answered before xs) ≡ xs
-journal_from before [] = refl
-journal_from before (x ∷ xs) = ap (λ ys. x ∷ ys) (journal_from (before ++ x ∷ []) xs)
-
--- without the packets it is the journal again
-pub journal_of-answers : (journal : List Entry) → journal_of (answers_of journal) ≡ journal
-journal_of-answers journal = journal_from [] journal
 
 -- with each reply just those packets left that the entries before it determine
 abbrev pub HasWires : List Answered → Type 0

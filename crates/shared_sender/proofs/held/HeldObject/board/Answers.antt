@@ -1,6 +1,6 @@
 use Rattle.std.proofs.Common.{arith, sym, ap, subst, ◌∙◌}
 use Rattle.send_core.specs.Reply.{IsLegal, board}
-use Rattle.shared_sender.specs.Served.{journal_of-answers}
+use Rattle.shared_sender.proofs.Served.{journal_of-answers}
 use Rattle.shared_sender.proofs.Answering.{length-answers, answers_have_wires}
 use Rattle.shared_sender.proofs.held.HeldObject.board.Goals as goal
 

@@ -5,7 +5,7 @@ use Rattle.std.proofs.lemmas.List.Sums.{fold-append}
 use Rattle.gcc_units.specs.declared.shared_types.Sample.{Sample}
 use Rattle.arrival_filter.specs.declared.TheConstants.{START_ERROR, PROCESS_NOISE, GREATEST_ERROR, FORGETTING}
 use Rattle.arrival_filter.specs.Filter.{State, start, step, last_kept, interval_of, least, bound_of, cut, next_variance, gain, moved, left}
-use Rattle.arrival_filter.specs.GivenSamples.{StandsFor, StandsForFew, ErrorsStayLow}
+use Rattle.arrival_filter.specs.StateBySamples.{StandsFor, StandsForFew, ErrorsStayLow}
 use Rattle.arrival_filter.proofs.Numbers.{left_below}
 
 step_error : (s : State) (sample : Sample) → (step s sample).error ≤ s.error + PROCESS_NOISE

@@ -1,2 +1,2 @@
 pub mod Filter
-pub mod GivenSamples
+pub mod StateBySamples

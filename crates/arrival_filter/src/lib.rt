@@ -13,7 +13,7 @@ ghost use Rattle.std.specs.Prelude.{◌≡◌, ◌+ℤ◌, ◌≤ℤ◌, pos, ne
 ghost use Rattle.std.specs.Int.{int_min, int_max};
 ghost use Rattle.gcc_units.specs.declared.shared_types.Sample.{Sample};
 ghost use Rattle.arrival_filter.specs.Filter.{start, step, last_kept, least, cut, next_variance, gain, moved, left};
-ghost use Rattle.arrival_filter.specs.GivenSamples.{IsWithin, StandsFor, StandsForFew, ErrorsStayLow};
+ghost use Rattle.arrival_filter.specs.StateBySamples.{IsWithin, StandsFor, StandsForFew, ErrorsStayLow};
 
 use arrayvec::ArrayVec;
 use fixed_math::{ONE_Q16, ONE_Q30, isqrt, mul_q16, pow_q30};

@@ -11,7 +11,7 @@ use Rattle.packet_groups.specs.Kept as grouped
 use Rattle.packet_groups.specs.declared.step.State as groups_state
 use Rattle.arrival_filter.specs.Filter as filter
 use Rattle.overuse.specs.Detector as detector
-use Rattle.overuse.specs.GivenSteps as detected
+use Rattle.overuse.specs.StateBySteps as detected
 use Rattle.estimator.specs.Signals.{step_of, steps_from, steps, signals, Follow, IsSentBy}
 
 steps-push : (f : filter.State) (xs : List Sample) (x : Sample) → steps_from f (xs ++ x ∷ []) ≡ steps_from f xs ++ step_of (fold filter.step f xs) x ∷ []

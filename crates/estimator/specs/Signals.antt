@@ -9,9 +9,9 @@ use Rattle.packet_groups.specs.Groups.{samples}
 use Rattle.packet_groups.specs.declared.step.State as groups_state
 use Rattle.packet_groups.specs.Kept as grouped
 use Rattle.arrival_filter.specs.Filter as filter
-use Rattle.arrival_filter.specs.GivenSamples as filtered
+use Rattle.arrival_filter.specs.StateBySamples as filtered
 use Rattle.overuse.specs.Detector as detector
-use Rattle.overuse.specs.GivenSteps as detected
+use Rattle.overuse.specs.StateBySteps as detected
 
 -- a sample, with the filter's mean after it
 abbrev pub step_of : filter.State → Sample → detector.Step

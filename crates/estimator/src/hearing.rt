@@ -5,9 +5,9 @@ ghost use Rattle.gcc_units.specs.declared.shared_types.Credit.{Credit};
 ghost use Rattle.gcc_units.specs.declared.shared_types.Sample.{Sample};
 ghost use Rattle.packet_groups.specs.Kept.{IsWithin};
 ghost use Rattle.arrival_filter.specs.Filter as filtered;
-ghost use Rattle.arrival_filter.specs.GivenSamples as given;
+ghost use Rattle.arrival_filter.specs.StateBySamples as given;
 ghost use Rattle.overuse.specs.Detector as detected;
-ghost use Rattle.overuse.specs.GivenSteps as stepped;
+ghost use Rattle.overuse.specs.StateBySteps as stepped;
 ghost use Rattle.estimator.specs.Signals.{step_of, steps, signals, heard_next, report_signal, listed, Follow, TakesCredits};
 
 use arrival_filter::Filter;

@@ -4,7 +4,7 @@ use Rattle.std.proofs.lemmas.List.Sums.{fold-append, sum_by-append}
 use Rattle.gcc_units.specs.declared.limits.TheConstants.{GREATEST_MOMENT}
 use Rattle.gcc_units.specs.declared.shared_types.Signal.{Signal}
 use Rattle.overuse.specs.Detector.{Step, State, start, after, over_at, is_over, time_at, signal_at, signal_of, next_threshold, signals_from, signals}
-use Rattle.overuse.specs.GivenSteps.{StandsFor, StandsForRoom, TimesStayLow, total_gap}
+use Rattle.overuse.specs.StateBySteps.{StandsFor, StandsForRoom, TimesStayLow, total_gap}
 
 none_or : (b : Bool) (n m : ℕ) → n ≤ m → (if b then 0 else n) ≤ m
 none_or true n m h = omega arith

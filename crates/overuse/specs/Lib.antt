@@ -1,2 +1,2 @@
 pub mod Detector
-pub mod GivenSteps
+pub mod StateBySteps

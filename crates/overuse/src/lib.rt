@@ -11,7 +11,7 @@
 ghost use Rattle.std.specs.Prelude.{◌≡◌, ◌≤ℤ◌, pos, neg_ℤ, ◌+◌, ◌^◌, ◌<◌, [], ◌∷◌, ◌++◌, List};
 ghost use Rattle.gcc_units.specs.declared.shared_types.Sample.{Sample};
 ghost use Rattle.overuse.specs.Detector.{Step, start, after, signal_of, signals, time_above, is_over, signal_at, next_threshold, moved, weight};
-ghost use Rattle.overuse.specs.GivenSteps.{StandsFor, StandsForRoom, TimesStayLow};
+ghost use Rattle.overuse.specs.StateBySteps.{StandsFor, StandsForRoom, TimesStayLow};
 
 use gcc_units::{Sample, Signal};
 use std::marker::Model;

@@ -14,7 +14,7 @@ use Rattle.packet_groups.specs.Division.{GapsAreShort}
 use Rattle.packet_groups.specs.Groups.{samples}
 use Rattle.packet_groups.specs.Kept.{IsWithin, listed}
 use Rattle.packet_groups.specs.Kept as grouped
-use Rattle.trendline.specs.GivenSamples.{GapsStayWithin}
+use Rattle.trendline.specs.KeptBySamples.{GapsStayWithin}
 use Rattle.send_core.specs.declared.call.Entry.{Entry}
 use Rattle.send_laws.specs.Credits.{credits}
 use Rattle.send_laws.specs.InRange.{all_credits}

@@ -14,14 +14,14 @@ use Rattle.gcc_units.specs.declared.shared_types.Signal.{Signal}
 use Rattle.gcc_units.specs.declared.shared_types.Signal.TheVariants.{Normal}
 use Rattle.packet_groups.specs.Division.{total_gap}
 use Rattle.arrival_filter.specs.Filter as filter
-use Rattle.arrival_filter.specs.GivenSamples as filtered
+use Rattle.arrival_filter.specs.StateBySamples as filtered
 use Rattle.overuse.specs.Detector as detector
-use Rattle.overuse.specs.GivenSteps as detected
+use Rattle.overuse.specs.StateBySteps as detected
 use Rattle.trendline.specs.declared.TheConstants.{MOST_POINTS, MOST_DELTAS, GREATEST_SLOPE}
 use Rattle.trendline.specs.Ranges.{IsNear}
 use Rattle.trendline.specs.Trend as trendline
 use Rattle.trendline.proofs.Numbers.{near-times, whole}
-use Rattle.trendline.specs.GivenSamples as trended
+use Rattle.trendline.specs.KeptBySamples as trended
 use Rattle.estimator.specs.Signals.{step_of, steps_from, steps}
 use Rattle.run_top.specs.declared.beside.Beside.{Beside}
 use Rattle.run_top.specs.declared.beside.Compared.{Compared}

@@ -7,11 +7,11 @@ use Rattle.gcc_units.specs.declared.shared_types.Signal.TheVariants.{Normal}
 use Rattle.gcc_units.specs.Walk.{each_by}
 use Rattle.packet_groups.specs.Division.{total_gap}
 use Rattle.arrival_filter.specs.Filter.{filter_state}
-use Rattle.arrival_filter.specs.GivenSamples as filtered
+use Rattle.arrival_filter.specs.StateBySamples as filtered
 use Rattle.overuse.specs.Detector as detector
-use Rattle.overuse.specs.GivenSteps as detected
+use Rattle.overuse.specs.StateBySteps as detected
 use Rattle.trendline.specs.Trend as trendline
-use Rattle.trendline.specs.GivenSamples as trended
+use Rattle.trendline.specs.KeptBySamples as trended
 use Rattle.estimator.specs.Signals.{steps}
 use Rattle.run_top.specs.declared.beside.Beside.{Beside}
 use Rattle.run_top.specs.declared.beside.Compared.{Compared}

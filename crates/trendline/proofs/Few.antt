@@ -8,7 +8,7 @@ use Rattle.gcc_units.specs.declared.limits.TheConstants.{GREATEST_DELAY}
 use Rattle.trendline.specs.declared.TheConstants.{GREATEST_TIME}
 use Rattle.trendline.specs.Trend.{total, gap_of}
 use Rattle.trendline.specs.Ranges.{IsNear}
-use Rattle.trendline.specs.GivenSamples.{Kept, StandsFor, IsDelayWithin, AreWithin, TakesSample}
+use Rattle.trendline.specs.KeptBySamples.{Kept, StandsFor, IsDelayWithin, AreWithin, TakesSample}
 use Rattle.trendline.proofs.Numbers.{near-total, near-wider}
 
 pub record IsSoon (s : Sample) : Type 0 where

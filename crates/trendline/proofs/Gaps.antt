@@ -12,7 +12,7 @@ use Rattle.packet_groups.specs.Division.{SamplesAreFew}
 use Rattle.trendline.specs.declared.TheConstants.{GREATEST_TIME}
 use Rattle.trendline.specs.Trend.{total, gap_of}
 use Rattle.trendline.specs.Ranges.{IsNear}
-use Rattle.trendline.specs.GivenSamples.{IsDelayWithin, GapsStayWithin}
+use Rattle.trendline.specs.KeptBySamples.{IsDelayWithin, GapsStayWithin}
 
 -- ---- what the runs end with
 

@@ -9,7 +9,7 @@ use Rattle.trendline.specs.declared.TheConstants.{MOST_POINTS}
 use Rattle.trendline.specs.declared.sums.Point.{Point}
 use Rattle.trendline.specs.Trend.{total, gap_of, delay_of, point_of, points, last_of, last_points, x_of, y_of, product_of, square_of, sums_of}
 use Rattle.trendline.specs.Ranges.{with_point, without_point}
-use Rattle.trendline.specs.GivenSamples.{moved, Kept, StandsFor}
+use Rattle.trendline.specs.KeptBySamples.{moved, Kept, StandsFor}
 
 pub total-push : {A : Type 0} (f : A → ℤ) (xs : List A) (x : A) → total f (xs ++ x ∷ []) ≡ total f xs +ℤ f x
 total-push f [] x = omega (arith, ints)

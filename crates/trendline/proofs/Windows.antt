@@ -12,7 +12,7 @@ use Rattle.trendline.specs.declared.sums.Point.{Point}
 use Rattle.trendline.specs.declared.sums.Sums.{Sums}
 use Rattle.trendline.specs.Trend.{total, gap_of, delay_of, point_of, last_of, sums_of, fit, rise_of, spread_of, slope}
 use Rattle.trendline.specs.Ranges.{IsNear, IsPointSmall, IsHeld, AreSmall, most_delay, with_point, without_point}
-use Rattle.trendline.specs.GivenSamples.{Kept, StandsFor, AreWithin, TakesSample, moved}
+use Rattle.trendline.specs.KeptBySamples.{Kept, StandsFor, AreWithin, TakesSample, moved}
 use Rattle.trendline.proofs.Lists.{drop_0, sums-push, sums-first, point-push, stands-more}
 use Rattle.trendline.proofs.Numbers.{sums-small, near-total, near-wider}
 

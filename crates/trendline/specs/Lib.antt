@@ -1,3 +1,3 @@
 pub mod Trend
 pub mod Ranges
-pub mod GivenSamples
+pub mod KeptBySamples

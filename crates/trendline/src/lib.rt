@@ -7,7 +7,7 @@
 
 ghost use Rattle.std.specs.Prelude.{◌≡◌, [], ◌∷◌, ◌++◌, List, IfOk};
 ghost use Rattle.gcc_units.specs.declared.shared_types.Sample.{Sample};
-ghost use Rattle.trendline.specs.GivenSamples.{GapsStayWithin, StandsFor, TakesSample};
+ghost use Rattle.trendline.specs.KeptBySamples.{GapsStayWithin, StandsFor, TakesSample};
 ghost use Rattle.trendline.specs.Trend.{slope};
 
 use gcc_units::{NoMemory, Sample};
@@ -46,7 +46,7 @@ pub struct Trend {
 }
 
 impl Model for Trend {
-    ghost use Rattle.trendline.specs.GivenSamples.{Kept};
+    ghost use Rattle.trendline.specs.KeptBySamples.{Kept};
 
     ghost Value = { Kept };
 

@@ -3,7 +3,7 @@
 ghost use Rattle.std.specs.Prelude.{◌≡◌, pos, ◌+ℤ◌, ◌-ℤ◌, ◌*ℤ◌};
 ghost use Rattle.trendline.specs.Trend.{fit, rise_of, spread_of};
 ghost use Rattle.trendline.specs.Ranges.{AreSmall, IsNear, IsPointSmall, most_product, most_squares, with_point, without_point};
-ghost use Rattle.trendline.specs.GivenSamples.{moved, MovesWithin};
+ghost use Rattle.trendline.specs.KeptBySamples.{moved, MovesWithin};
 
 use crate::{GREATEST_SLOPE, MOST_POINTS};
 use gcc_units::Sample;

@@ -1,7 +1,7 @@
 use Rattle.std.proofs.Common.{ℕ, List, [], ◌∷◌, ◌++◌, ◌≡◌, ◌+◌, length, arith, length-append}
 use Rattle.gcc_units.specs.declared.shared_types.Sample.{Sample}
 use Rattle.arrival_filter.specs.Filter.{State}
-use Rattle.arrival_filter.specs.GivenSamples.{StandsFor}
+use Rattle.arrival_filter.specs.StateBySamples.{StandsFor}
 use Rattle.arrival_filter.proofs.tests.run_agrees.Goals as goal
 
 one_more : (old now : State) (sample : Sample) (n : ℕ) → ((xs : List Sample) → StandsFor old xs → StandsFor now (xs ++ sample ∷ []))

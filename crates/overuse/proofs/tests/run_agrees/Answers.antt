@@ -1,7 +1,7 @@
 use Rattle.std.proofs.Common.{ℕ, List, [], ◌∷◌, ◌++◌, ◌+◌, ◌*◌, ◌≤◌, arith}
 use Rattle.std.proofs.lemmas.List.Sums.{sum_by-append}
 use Rattle.overuse.specs.Detector.{Step, State}
-use Rattle.overuse.specs.GivenSteps.{StandsFor, total_gap}
+use Rattle.overuse.specs.StateBySteps.{StandsFor, total_gap}
 use Rattle.overuse.proofs.tests.run_agrees.Goals as goal
 
 one_more : (old now : State) (x : Step) (n : ℕ) → x.sample.send_gap ≤ 100000000 → ((xs : List Step) → StandsFor old xs → StandsFor now (xs ++ x ∷ []))

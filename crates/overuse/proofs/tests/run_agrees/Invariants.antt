@@ -1,6 +1,6 @@
 use Rattle.std.proofs.Common.{◌≤◌, ◌*◌, List}
 use Rattle.overuse.specs.Detector.{Step}
-use Rattle.overuse.specs.GivenSteps.{StandsFor, total_gap}
+use Rattle.overuse.specs.StateBySteps.{StandsFor, total_gap}
 use Rattle.overuse.proofs.tests.run_agrees.Given as goal
 
 abbrev pub invariant-loop-row : goal.invariant-loop-row

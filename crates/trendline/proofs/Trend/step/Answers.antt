@@ -1,5 +1,5 @@
 use Rattle.std.proofs.Common.{◌≡◌, ap, arith}
-use Rattle.trendline.specs.GivenSamples.{Kept}
+use Rattle.trendline.specs.KeptBySamples.{Kept}
 use Rattle.trendline.proofs.Windows.{point-small, count-few, step-stands, slope-none, slope-some}
 use Rattle.trendline.proofs.Trend.step.Goals as goal
 

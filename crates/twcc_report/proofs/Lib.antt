@@ -1,6 +1,7 @@
 pub mod Chunking
 pub mod Gathering
 pub mod Statuses
+pub mod InRuns
 pub mod Deltas
 pub mod Headers
 pub mod Outcomes

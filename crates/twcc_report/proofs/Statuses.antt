@@ -6,12 +6,9 @@ use Rattle.twcc_report.specs.declared.fault.ReadReport.{ReadReport}
 use Rattle.twcc_report.specs.declared.fault.ReadReport.TheVariants as errors
 use Rattle.twcc_report.specs.declared.report.Status.{Status}
 use Rattle.twcc_report.specs.Reading.{◌>>=◌, Fails, status_at, statuses_at}
+use Rattle.twcc_report.specs.Runs.{with_front}
 
--- what was read before, and what is still read
-abbrev pub with_front : List Status → Result (List Status × List ℕ) ReportFault → Result (List Status × List ℕ) ReportFault
-with_front front read = read >>= λ x. Ok (front ++ x.0, x.1)
-
-regroup : (front : List Status) (s : Status) (read : Result (List Status × List ℕ) ReportFault)
+pub regroup : (front : List Status) (s : Status) (read : Result (List Status × List ℕ) ReportFault)
     → with_front front (read >>= λ x. Ok (s ∷ x.0, x.1)) ≡ with_front (front ++ s ∷ []) read
 regroup front s (Ok x) = ap (λ (ss : List Status). Ok (ss, x.1)) (simp append_assoc)
 regroup front s (Err f) = refl

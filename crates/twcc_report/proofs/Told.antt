@@ -6,24 +6,23 @@ use Rattle.std.proofs.lemmas.List.{get_or_past}
 use Rattle.std.proofs.lemmas.List.Elements.{All-get_or}
 use Rattle.twcc_report.specs.declared.fault.ReadReport.{ReadReport}
 use Rattle.twcc_report.specs.declared.fault.ReadReport.TheVariants as errors
-use Rattle.twcc_report.specs.declared.report.Report.{Report}
-use Rattle.twcc_report.specs.Spelling.{Fits, Spells, view}
+use Rattle.twcc_report.specs.Spelling.{Feedback, Fits, Spells}
 use Rattle.twcc_report.specs.Reading.{Gives, read_of}
 use Rattle.twcc_report.specs.Checks.{IsByChecks, IsCause}
 use Rattle.twcc_report.proofs.Chunking.{IsBytes}
 
-pub found : (bytes : List ℕ) (r : Result Report ReadReport) → IsByChecks bytes → Gives view r (read_of bytes) → IfOk r (λ report. Spells (view report) bytes)
-found bytes (Ok report) law given = ((law.reports (view report)).0 given).1
-found bytes (Err e) law given = tt
+pub found : {X : Type 0} (seen : X → Feedback) (bytes : List ℕ) (r : Result X ReadReport) → IsByChecks bytes → Gives seen r (read_of bytes) → IfOk r (λ report. Spells (seen report) bytes)
+found seen bytes (Ok report) law given = ((law.reports (seen report)).0 given).1
+found seen bytes (Err e) law given = tt
 
-pub fits : (bytes : List ℕ) (r : Result Report ReadReport) → IsByChecks bytes → Gives view r (read_of bytes) → IfOk r (λ report. Fits (view report))
-fits bytes (Ok report) law given = ((law.reports (view report)).0 given).0
-fits bytes (Err e) law given = tt
+pub fits : {X : Type 0} (seen : X → Feedback) (bytes : List ℕ) (r : Result X ReadReport) → IsByChecks bytes → Gives seen r (read_of bytes) → IfOk r (λ report. Fits (seen report))
+fits seen bytes (Ok report) law given = ((law.reports (seen report)).0 given).0
+fits seen bytes (Err e) law given = tt
 
-pub cause : (bytes : List ℕ) (r : Result Report ReadReport) → IsByChecks bytes → Gives view r (read_of bytes) → IfErr r (IsCause bytes)
-cause bytes (Ok report) law given = tt
-cause bytes (Err errors.NoMemory) law given = tt
-cause bytes (Err (errors.Fault fault)) law given = (law.faults fault).0 given
+pub cause : {X : Type 0} (seen : X → Feedback) (bytes : List ℕ) (r : Result X ReadReport) → IsByChecks bytes → Gives seen r (read_of bytes) → IfErr r (IsCause bytes)
+cause seen bytes (Ok report) law given = tt
+cause seen bytes (Err errors.NoMemory) law given = tt
+cause seen bytes (Err (errors.Fault fault)) law given = (law.faults fault).0 given
 
 pub each_byte : (bytes : List ℕ) → All (λ b. b < 256) bytes → IsBytes bytes
 each_byte bytes all i = elim (cases_lt i (length bytes)) [

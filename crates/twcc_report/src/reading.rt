@@ -50,10 +50,10 @@ use gcc_units::{Sequence, number16, number32};
 use std::alloc::Global;
 
 /// The bytes of a report's header.
-const HEADER: usize = 20;
+pub(crate) const HEADER: usize = 20;
 
 /// The reference time, a number of 24 bits in two's complement.
-fn reference_of(bits: u32) -> i32
+pub(crate) fn reference_of(bits: u32) -> i32
     requires { bits < 2 ^ 24 }
     ensures { result ≡ twos_complement24 bits }
 {
@@ -66,7 +66,7 @@ fn reference_of(bits: u32) -> i32
 
 /// Checks the header, and gives the status count.
 #[tactic(auto, unfolding(crate::specs::Reading::header_at))]
-fn read_header(bytes: &[u8]) -> Result<u16, ReadReport>
+pub(crate) fn read_header(bytes: &[u8]) -> Result<u16, ReadReport>
     ensures count { Gives (λ n. n) result (header_at bytes.now) }
     ensures long { OnOk result (20 ≤ length bytes.now) }
 {
@@ -106,7 +106,7 @@ pub(crate) fn symbol_count(word: u16) -> usize
 }
 
 /// Symbol `k` of a chunk.
-fn symbol_at(word: u16, k: usize) -> u8
+pub(crate) fn symbol_at(word: u16, k: usize) -> u8
     requires { k < symbol_count word }
     ensures value { result ≡ symbol_at word k }
     ensures bits { result < 4 }
@@ -166,7 +166,7 @@ fn refuse_reserved(symbols: &[u8]) -> Result<(), ReadReport>
 
 /// The status of a symbol, and the bytes behind its delta.
 #[tactic(auto, unfolding(crate::specs::Reading::status_at))]
-fn read_status(symbol: u8, bytes: &[u8]) -> Result<(Status, &[u8]), ReadReport>
+pub(crate) fn read_status(symbol: u8, bytes: &[u8]) -> Result<(Status, &[u8]), ReadReport>
     ensures { Gives (λ x. (x.0, x.1.now)) result (status_at symbol bytes.now) }
 {
     match symbol {
@@ -205,7 +205,7 @@ fn read_statuses<'a>(
 
 /// Checks the bytes behind the last delta.
 #[tactic(auto, unfolding(crate::specs::Reading::end_at))]
-fn read_end(bit: u8, rest: &[u8]) -> Result<(), ReadReport>
+pub(crate) fn read_end(bit: u8, rest: &[u8]) -> Result<(), ReadReport>
     ensures { Gives (λ x. x) result (end_at bit rest.now) }
 {
     let len = rest.len();

@@ -1,7 +1,9 @@
 //! What no clause says: reports of the worked runs, and that memory is not wanting.
 
 use crate::Status::{Large, NotReceived, Small};
-use crate::{ReadReport, Report, ReportFault, Status, read_report, write_report};
+use crate::{
+    ReadReport, Report, ReportFault, Status, StatusRun, read_compact, read_report, write_report,
+};
 use gcc_units::Sequence;
 use std::alloc::{AllocError, Global};
 use std::test::Fail;
@@ -259,5 +261,66 @@ fn two_bit_vector(rt: HostRuntime) -> Result<(), Fail> {
     let want = bytes_of(rt.alloc(), 0x8f, 6, 2, [0xff, 0xff, 0xfe], &behind)?;
     let got = write_report(rt.alloc(), &report)?;
     assert!(rt; got.as_slice() == want.as_slice());
+    Ok(())
+}
+
+/// A report's length in words less one, its status count, the bytes behind the header, and its runs.
+type InRuns = (u8, u8, &'static [u8], &'static [StatusRun]);
+
+const IN_RUNS: [InRuns; 4] = [
+    // two chunks of lost packets, of which the second is longer than the count
+    (
+        5,
+        20,
+        &[0, 13, 0x1f, 0xff],
+        &[StatusRun::Lost(13), StatusRun::Lost(7)],
+    ),
+    // received packets between lost ones, and a run of no length
+    (
+        7,
+        6,
+        &[0, 2, 0, 0, 0x20, 2, 0, 2, 4, 8, 0, 0],
+        &[
+            StatusRun::Lost(2),
+            StatusRun::Lost(0),
+            StatusRun::One(Small(4)),
+            StatusRun::One(Small(8)),
+            StatusRun::Lost(2),
+        ],
+    ),
+    // a vector of one bit
+    (
+        5,
+        3,
+        &[0xa8, 0, 4, 8],
+        &[
+            StatusRun::One(Small(4)),
+            StatusRun::Lost(1),
+            StatusRun::One(Small(8)),
+        ],
+    ),
+    // a large delta
+    (5, 1, &[0x40, 1, 0x0b, 0xb8], &[StatusRun::One(Large(3000))]),
+];
+
+#[test]
+fn reports_in_runs(rt: HostRuntime) -> Result<(), Fail> {
+    for (k, (words, count, behind, runs)) in IN_RUNS.into_iter().enumerate() {
+        let bytes = bytes_of(rt.alloc(), 0x8f, words, count, [0x80, 0, 0], behind)?;
+        let report = read_compact(rt.alloc(), &bytes)?;
+        assert_eq!(rt; report.base(), 7, "report {k}");
+        assert_eq!(rt; report.reference(), -8_388_608, "report {k}");
+        assert!(rt; report.runs() == runs, "report {k}");
+    }
+    Ok(())
+}
+
+#[test]
+fn refused_in_runs(rt: HostRuntime) -> Result<(), Fail> {
+    for (k, (first, words, count, behind, fault)) in REFUSED.into_iter().enumerate() {
+        let bytes = bytes_of(rt.alloc(), first, words, count, [0, 0, 1], behind)?;
+        let got = read_compact(rt.alloc(), &bytes).err();
+        assert!(rt; got == Some(ReadReport::Fault(fault)), "report {k}");
+    }
     Ok(())
 }

@@ -6,16 +6,16 @@ use Rattle.twcc_report.proofs.Told.{found, fits, cause}
 use Rattle.twcc_report.proofs.reading.read_report.Goals as goal
 
 pub returns-clause-found : goal.returns-clause-found
-returns-clause-found c = found c.args.bytes.now c.read.result (by_checks c.args.bytes.now (λ i. omega (arith, c.type_inv.bytes i))) c.read.ensures.exact
+returns-clause-found c = found view c.args.bytes.now c.read.result (by_checks c.args.bytes.now (λ i. omega (arith, c.type_inv.bytes i))) c.read.ensures.exact
 
 pub returns-clause-fits : goal.returns-clause-fits
-returns-clause-fits c = fits c.args.bytes.now c.read.result (by_checks c.args.bytes.now (λ i. omega (arith, c.type_inv.bytes i))) c.read.ensures.exact
+returns-clause-fits c = fits view c.args.bytes.now c.read.result (by_checks c.args.bytes.now (λ i. omega (arith, c.type_inv.bytes i))) c.read.ensures.exact
 
 pub returns-clause-only : goal.returns-clause-only
 returns-clause-only c = λ f fit spells. subst (λ r. Gives view c.read.result r) (spelled_is_read c.args.bytes.now f fit spells) c.read.ensures.exact
 
 pub returns-clause-cause : goal.returns-clause-cause
-returns-clause-cause c = cause c.args.bytes.now c.read.result (by_checks c.args.bytes.now (λ i. omega (arith, c.type_inv.bytes i))) c.read.ensures.exact
+returns-clause-cause c = cause view c.args.bytes.now c.read.result (by_checks c.args.bytes.now (λ i. omega (arith, c.type_inv.bytes i))) c.read.ensures.exact
 
 pub returns-clause-refused : goal.returns-clause-refused
 returns-clause-refused c = λ fault first.

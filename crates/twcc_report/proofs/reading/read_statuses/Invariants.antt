@@ -1,6 +1,6 @@
 use Rattle.std.proofs.Common.{◌≡◌, length, drop, vec_capacity}
 use Rattle.twcc_report.specs.Reading.{statuses_at}
-use Rattle.twcc_report.proofs.Statuses.{with_front}
+use Rattle.twcc_report.specs.Runs.{with_front}
 use Rattle.twcc_report.proofs.reading.read_statuses.Given as goal
 
 -- what was read, and what the rest gives, is what all gives

@@ -63,7 +63,9 @@ fn read_symbol_runs(
 ) -> Result<(Vec<SymbolRun>, &[u8]), ReadReport>
     ensures { Gives (λ x. (all_symbols_of x.0.items, x.1.now)) result (symbols_in count body.now) }
 {
-    let mut runs = Vec::new(alloc);
+    // No more runs than symbols, and a byte gives seven symbols of a vector.
+    let most = body.len().saturating_mul(7).min(count as usize);
+    let mut runs = Vec::with_capacity(alloc, most)?;
     let mut left = count;
     let mut rest = body;
     while left > 0 {
@@ -135,7 +137,9 @@ fn read_status_runs<'a>(
     ensures { Gives (λ x. (expanded x.0.items, x.1.now)) result
         (statuses_at (all_symbols_of symbols.now) bytes.now) }
 {
-    let mut runs = Vec::with_capacity(alloc, symbols.len())?;
+    // A received status has a byte of its own.
+    let most = symbols.len().saturating_add(bytes.len());
+    let mut runs = Vec::with_capacity(alloc, most)?;
     let mut rest = bytes;
     for symbol in symbols {
         rest = read_run(&mut runs, *symbol, rest)?;

@@ -67,7 +67,7 @@ fn step(ring: &mut HeapCircularBuffer<u64>) -> u64
 /// Moves on by so many quarter-milliseconds, and answers the bytes that went.
 pub fn advance(ring: &mut HeapCircularBuffer<u64>, steps: u64) -> u64
     requires full { IsFull ring.old }
-    requires few { sum ring.old.items < 2 ^ 50 }
+    requires few { sum ring.old.items < 2 ^ 51 }
     ensures full { IsFull ring.new }
     ensures items { ring.new.items ≡ moved steps ring.old.items }
     ensures gone { result + sum ring.new.items ≡ sum ring.old.items }
@@ -85,7 +85,7 @@ pub fn take_in(ring: &mut HeapCircularBuffer<u64>, newest: i64, arrival: i64, si
     requires low { neg_ℤ GREATEST_ARRIVAL ≤ℤ newest }
     requires newest { arrival ≤ℤ newest }
     requires full { IsFull ring.old }
-    requires few { sum ring.old.items < 2 ^ 50 }
+    requires few { sum ring.old.items < 2 ^ 51 }
     ensures full { IsFull ring.new }
     ensures added { sum ring.new.items ≡ sum ring.old.items + result }
     ensures most { result ≤ size }
@@ -105,7 +105,7 @@ pub fn take_in(ring: &mut HeapCircularBuffer<u64>, newest: i64, arrival: i64, si
 fn add_at(ring: &mut HeapCircularBuffer<u64>, place: usize, size: u32)
     requires full { IsFull ring.old }
     requires place { place < MOST_SUMS }
-    requires few { sum ring.old.items < 2 ^ 50 }
+    requires few { sum ring.old.items < 2 ^ 51 }
     ensures full { IsFull ring.new }
     ensures items { ring.new.items ≡ set ring.old.items place (get_or ring.old.items place 0 + size) }
 {

@@ -37,7 +37,7 @@ pub const LEAST_VARIANCE: u64 = 65_536;
 pub const GREATEST_VARIANCE: u64 = 26_214_400_000_000;
 
 /// The greatest error that the samples of one filter can lead to, in Q16.
-pub const GREATEST_ERROR: u64 = START_ERROR + PROCESS_NOISE * MOST_PACKETS as u64;
+pub const GREATEST_ERROR: u64 = START_ERROR + PROCESS_NOISE * MOST_PACKETS;
 
 /// How many of the last send intervals are kept (draft-ietf-rmcat-gcc-02, section 5.3, `K`).
 pub const KEPT_INTERVALS: usize = 5;

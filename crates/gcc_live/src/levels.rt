@@ -17,8 +17,8 @@ ghost use Rattle.level_control.specs.Rule.{Gathers, IsReport, TakesReport};
 use crate::stop::Stop;
 use call_trace::{NO_HEADER, TOO_MANY_LINES, cut, next_line, number};
 use gcc_units::{
-    Bounds, GREATEST_MOMENT, GREATEST_RATE, LEAST_RATE, MOST_CLUSTERS, MOST_REPORTS, MOST_STATUSES,
-    Moment, NoMemory, Rate, Signal,
+    Bounds, GREATEST_MOMENT, GREATEST_RATE, LEAST_RATE, MOST_CLUSTERS, MOST_STATUSES, Moment,
+    NoMemory, Rate, Signal,
 };
 use level_control::{Answer, Delay, GREATEST_ROUND_TRIP, LevelControl, Probed, Report};
 use run_top::Status;
@@ -29,6 +29,9 @@ const NO_REPORT: u32 = 13;
 
 /// How far a delay may lie from 0 here, in quarter-milliseconds.
 const MOST_DELAY: u64 = 1_000_000_000_000;
+
+/// The most lines of a table behind its header: 2^20.
+const MOST_TABLE_LINES: u32 = 1_048_576;
 
 /// A field is not what stands at its place.
 #[derive(Clone, Copy)]
@@ -245,12 +248,12 @@ pub fn run_level(alloc: Global, bytes: &[u8]) -> Result<String, Stop> {
         text: String::new(alloc),
     };
     let mut rest = rest;
-    for number in 0..MOST_REPORTS {
+    for number in 0..MOST_TABLE_LINES {
         let Some((line, behind)) = next_line(rest) else {
             return Ok(told.text);
         };
         take(alloc, &mut told, bounds, number + 2, line)?;
         rest = behind;
     }
-    Err(bad(MOST_REPORTS + 2, TOO_MANY_LINES))
+    Err(bad(MOST_TABLE_LINES + 2, TOO_MANY_LINES))
 }

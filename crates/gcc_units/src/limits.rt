@@ -60,18 +60,25 @@ pub const ARRIVAL_MICROSECONDS: u64 = 250;
 /// (draft-holmer-rmcat-transport-wide-cc-extensions-01, section 3.1).
 pub const MOST_STATUSES: u32 = 65_535;
 
-/// The most feedback reports that one object is given: 2^20 (ours).
-pub const MOST_REPORTS: u32 = 1_048_576;
+/// The most feedback reports that one object is given: 2^30 (ours).
+pub const MOST_REPORTS: u32 = 1_073_741_824;
 
 /// How many lengths of a history a board can tell apart, 2^20: a board is the length and so many
 /// times what else is shown (ours).
 pub const BOARD_LENGTHS: u64 = 1_048_576;
 
-/// The most packets, credits or samples that one object is given: 2^27.
-pub const MOST_PACKETS: u32 = 134_217_728;
+/// The most packets, credits or samples that one object is given: 2^40, and those of one report more (ours).
+pub const MOST_PACKETS: u64 = 1_099_511_693_312;
 
-/// How far an arrival may lie from 0, in quarter-milliseconds: 2^53.
-pub const GREATEST_ARRIVAL: i64 = 9_007_199_254_740_992;
+/// More packets and credits than a journal has, whose calls send at most 64 packets each: 2^27.
+pub const JOURNAL_PACKETS: u32 = 134_217_728;
+
+/// How far an arrival may lie from 0, in quarter-milliseconds: 2^61 + 2^32. Each report moves the reference by at
+/// most 2^23 units of 64 ms, and its own deltas come to less than 2^31.
+pub const GREATEST_ARRIVAL: i64 = 2_305_843_013_508_661_248;
+
+/// How far an arrival of a journal's credit may lie from 0, in quarter-milliseconds: 2^53.
+pub const JOURNAL_ARRIVAL: i64 = 9_007_199_254_740_992;
 
 /// How far the `d` of a sample may lie from 0, in 1/65536 millisecond: 10,000 ms.
 pub const GREATEST_DELAY: i64 = 655_360_000;

@@ -20,8 +20,8 @@ pub fn unwrap16(sent: u64, low: u16) -> Option<u64>
 /// The number nearest to `last` that equals `low` modulo 2^24: `last + s`, with `s` from -2^23 to
 /// 2^23 - 1 (this project's own way to unwrap the reference time of a report).
 pub fn unwrap24(last: i64, low: i32) -> i64
-    requires last_low { neg_ℤ (pos (2 ^ 46)) ≤ℤ last }
-    requires last_high { last ≤ℤ pos (2 ^ 46) }
+    requires last_low { neg_ℤ (pos (2 ^ 56)) ≤ℤ last }
+    requires last_high { last ≤ℤ pos (2 ^ 56) }
     requires low_low { neg_ℤ (pos (2 ^ 24)) ≤ℤ low }
     requires low_high { low ≤ℤ pos (2 ^ 24) }
     ensures value { result ≡ unwrapped last low }
@@ -32,8 +32,8 @@ pub fn unwrap24(last: i64, low: i32) -> i64
 
 /// The number from -2^23 to 2^23 - 1 that equals `z` modulo 2^24.
 fn signed24(z: i64) -> i64
-    requires low { neg_ℤ (pos (2 ^ 48)) ≤ℤ z }
-    requires high { z ≤ℤ pos (2 ^ 48) }
+    requires low { neg_ℤ (pos (2 ^ 57)) ≤ℤ z }
+    requires high { z ≤ℤ pos (2 ^ 57) }
     ensures value { result ≡ signed24 z }
     ensures low { neg_ℤ (pos 8388608) ≤ℤ result }
     ensures high { result <ℤ pos 8388608 }

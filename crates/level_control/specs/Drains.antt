@@ -143,7 +143,7 @@ stepped s x = stepped_by s.drain s x
 -- ---- where numbers lie
 
 pub record IsDrain (d : Drain) : Type 0 where
-  pub deepest : d.deepest ≤ 2 ^ 56
+  pub deepest : d.deepest ≤ 2 ^ 63
   pub low : IsDelay d.low
   pub mark : IsDelay d.mark
   pub until : d.until ≤ 2 ^ 51
@@ -160,7 +160,7 @@ pub record IsRest (s : State) : Type 0 where
 
 pub record IsShown (x : Shown) : Type 0 where
   pub delays : IsDelays x.delays
-  pub above : x.above ≤ 2 ^ 56
+  pub above : x.above ≤ 2 ^ 63
   pub level : x.level ≤ GREATEST_CHANGES
   pub time : x.time ≤ LONGEST_STEP
   pub acked : ForSome x.acked (λ received. received ≤ GREATEST_RATE)

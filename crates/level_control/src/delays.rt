@@ -8,8 +8,8 @@ ghost use Rattle.level_control.specs.Delays.{above, apart, changed, first_delays
 use crate::state::{Delay, Delays};
 use gcc_units::Moment;
 
-/// How far a delay may lie from 0, in quarter-milliseconds: 2^55.
-pub const FARTHEST_DELAY: i64 = 36_028_797_018_963_968;
+/// How far a delay may lie from 0, in quarter-milliseconds: 2^62.
+pub const FARTHEST_DELAY: i64 = 4_611_686_018_427_387_904;
 
 /// The level of the own queue, in quarter-milliseconds: 25 ms (ours, found by trial between 20 and 30 ms: above
 /// the burst of a frame at 1 Mbit/s, below what is felt).
@@ -45,7 +45,7 @@ pub fn above(delay: Delay, other: Delay) -> u64
     requires delay { IsDelay delay }
     requires other { IsDelay other }
     ensures value { result ≡ above delay other }
-    ensures bound { result ≤ 2 ^ 56 }
+    ensures bound { result ≤ 2 ^ 63 }
 {
     if other < delay {
         delay.abs_diff(other)

@@ -293,7 +293,8 @@ fn left_most(drain: Drain, shown: Shown) -> bool
     requires shown { IsShown shown }
     ensures { result ≡ left_most drain shown }
 {
-    LEFT_PERCENT * drain.deepest < ALL_PERCENT * above(drain.low, shown.delays.base)
+    let left = u128::from(above(drain.low, shown.delays.base));
+    u128::from(LEFT_PERCENT) * u128::from(drain.deepest) < u128::from(ALL_PERCENT) * left
 }
 
 // What is left is the new base.

@@ -40,7 +40,7 @@ few-of f all judged gathered split low =
     omega (arith, sum_by-le f MOST_STATUSES all low, ap (sum_by f) split, sum_by-append f judged gathered)
 
 -- the counts of fewer reports than the most are few
-pub counts-few : (s : State) → TakesReport s → (s.received < 2 ^ 40) × (s.missing < 2 ^ 40)
+pub counts-few : (s : State) → TakesReport s → (s.received < 2 ^ 46) × (s.missing < 2 ^ 46)
 counts-few s (reports, stands, counts, few) =
     let received : sum_by (λ (c : Counts). c.received) stands.gathered ≤ length reports * MOST_STATUSES =
     few-of (λ (c : Counts). c.received) reports stands.judged stands.gathered stands.split (λ k d l. (counts k d l).received) in

@@ -3,7 +3,7 @@ use Rattle.std.specs.Prelude.{◌≡◌, ℕ, neg_ℤ, ◌≤◌, ◌≤ℤ◌, 
 use Rattle.std.specs.Option.{ForSome}
 use Rattle.gcc_units.specs.declared.shared_types.Credit.{Credit}
 use Rattle.gcc_units.specs.declared.shared_types.Sample.{Sample}
-use Rattle.gcc_units.specs.declared.limits.TheConstants.{GREATEST_MOMENT, GREATEST_ARRIVAL}
+use Rattle.gcc_units.specs.declared.limits.TheConstants.{GREATEST_MOMENT, GREATEST_ARRIVAL, JOURNAL_ARRIVAL}
 use Rattle.packet_groups.specs.declared.step.Point.{Point}
 use Rattle.packet_groups.specs.declared.step.Group.{Group}
 use Rattle.packet_groups.specs.declared.step.State.{State}
@@ -19,6 +19,12 @@ pub record IsPointWithin (p : Point) : Type 0 where
 -- the credit's moment and arrival are in their ranges
 abbrev pub IsWithin : Credit → Type 0
 IsWithin c = IsPointWithin (end_of c)
+
+-- the credit's moment is in its range, and its arrival in that of a journal's credits
+pub record IsOfJournal (c : Credit) : Type 0 where
+  pub sent_at : c.sent_at ≤ GREATEST_MOMENT
+  pub low : neg_ℤ JOURNAL_ARRIVAL ≤ℤ c.arrival
+  pub high : c.arrival ≤ℤ JOURNAL_ARRIVAL
 
 -- the group's first packet was sent no later than its last
 pub record IsGroupKept (g : Group) : Type 0 where

@@ -103,7 +103,8 @@ fn is_burst(arrival_gap: i64, send_gap: u64) -> bool
     requires send { send_gap ≤ GREATEST_MOMENT }
     ensures { result ≡ is_burst arrival_gap send_gap }
 {
-    arrival_gap < BURST_GAP && ARRIVAL_MICROSECONDS as i64 * arrival_gap < send_gap as i64
+    arrival_gap < BURST_GAP
+        && ARRIVAL_MICROSECONDS as i128 * (arrival_gap as i128) < send_gap as i128
 }
 
 /// The sample of two neighbouring groups, from their last packets.

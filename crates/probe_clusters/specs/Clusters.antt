@@ -2,6 +2,7 @@
 use Rattle.std.specs.Prelude.{◌≡◌, ◌<◌, ◌≤◌, length, fold, slice_index_or, ℕ, zero, suc, ◌+◌, Bool, false, ◌==◌, min, if◌then◌else◌, List, [], ◌∷◌, ◌++◌, map, count_by, position, slice_get, option_map, Option, Some, None}
 use Rattle.gcc_units.specs.declared.shared_types.Credit.{Credit}
 use Rattle.probe_clusters.specs.declared.cluster.Cluster.{Cluster}
+use Rattle.probe_clusters.specs.declared.probes.NextProbe.{NextProbe}
 use Rattle.probe_clusters.specs.declared.probes.Outcome.{Outcome}
 use Rattle.probe_clusters.specs.declared.probes.Readiness.{Readiness}
 use Rattle.probe_clusters.specs.Heard.{result_of}
@@ -54,6 +55,18 @@ first_after count first id is all = if count == 0 then all else (if is then min 
 -- the current cluster, where it is due
 abbrev pub due : List Cluster → ℕ → Option ℕ
 due cs now = due_at now cs (current cs)
+
+abbrev pub probe_as : ℕ → Option Cluster → Option NextProbe
+probe_as id None = None
+probe_as id (Some c) = Some (record { id = id; rate = c.rate })
+
+abbrev pub probe_at : List Cluster → Option ℕ → Option NextProbe
+probe_at cs None = None
+probe_at cs (Some id) = probe_as id (slice_get cs id)
+
+-- the current cluster, with its planned rate
+abbrev pub next_probe : List Cluster → Option NextProbe
+next_probe cs = probe_at cs (current cs)
 
 -- with one packet more for the current cluster
 abbrev pub sent : ℕ → ℕ → List Cluster → List Cluster

@@ -14,7 +14,7 @@ use gcc_units::{BYTE, Credit, GREATEST_MOMENT, GREATEST_PACKET, Moment, Rate};
 pub struct Cluster {
     pub rate: Rate,
     /// How many packets were sent for it, and their bytes.
-    pub packets: u32,
+    pub packets: u64,
     pub bytes: u64,
     /// When the first of them was sent.
     pub first_sent: Option<Moment>,
@@ -42,7 +42,7 @@ impl Cluster {
     pub fn waits(&self) -> bool
         ensures { result ≡ waits self.now }
     {
-        self.packets < LEAST_PACKETS
+        self.packets < u64::from(LEAST_PACKETS)
             || self.level() < u128::from(LEAST_TIME) * u128::from(self.rate)
     }
 
@@ -139,7 +139,7 @@ impl Cluster {
         let Some(heard) = &self.heard else {
             return false;
         };
-        is_part(u64::from(self.packets), u64::from(heard.count)) && is_part(self.bytes, heard.bytes)
+        is_part(self.packets, heard.count) && is_part(self.bytes, heard.bytes)
     }
 
     // Its bytes in micro-bits.

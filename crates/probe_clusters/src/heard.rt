@@ -12,7 +12,7 @@ use gcc_units::{
 /// What is kept of the credits of a cluster's packets.
 #[derive(Clone, Copy)]
 pub struct Heard {
-    pub count: u32,
+    pub count: u64,
     pub bytes: u64,
     pub sent_least: Moment,
     pub sent_greatest: Moment,

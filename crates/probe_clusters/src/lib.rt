@@ -17,7 +17,7 @@ mod probes;
 pub use laws::{
     clusters_wait_once, credits_stand, credits_together, outcomes_stand, results_are_taken_once,
 };
-pub use probes::{Clusters, Outcome, PlanFault};
+pub use probes::{Clusters, NextProbe, Outcome, PlanFault};
 
 /// The fewest packets that are sent for a cluster (`min_probe_packets_sent` of libwebrtc).
 pub const LEAST_PACKETS: u32 = 5;

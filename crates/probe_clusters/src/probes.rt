@@ -3,7 +3,7 @@ ghost use Rattle.gcc_units.specs.Listed.{bare};
 ghost use Rattle.gcc_units.specs.Rates.{IsRate};
 ghost use Rattle.probe_clusters.specs.declared.cluster.Cluster.{Cluster};
 ghost use Rattle.probe_clusters.specs.Cluster.{planned, waits, is_ready};
-ghost use Rattle.probe_clusters.specs.Clusters.{AreOver, AreReady, NoneOfFirst, first_after, due, sent, noted, ready, after_ready, outcomes, after_outcomes, listed};
+ghost use Rattle.probe_clusters.specs.Clusters.{AreOver, AreReady, NoneOfFirst, first_after, due, next_probe, sent, noted, ready, after_ready, outcomes, after_outcomes, listed};
 ghost use Rattle.probe_clusters.specs.Deeds.{Deed, clusters, Plan, Note, StandsFor, ReachedBy, send, takings};
 
 use crate::cluster::Cluster;
@@ -29,6 +29,14 @@ pub struct Outcome {
     pub id: u32,
     /// The rate of the path that its credits show, in bit/s; none where they show none.
     pub result: Option<Rate>,
+}
+
+/// The cluster that probes are sent for next.
+#[derive(Clone, Copy, PartialEq, Eq, Debug)]
+pub struct NextProbe {
+    pub id: u32,
+    /// Its planned rate, in bit/s.
+    pub rate: Rate,
 }
 
 // What is known of the clusters that have a result which was not taken.
@@ -124,6 +132,19 @@ impl Clusters {
         ensures stands { (ds : List Deed) → StandsFor self.now.items ds → result ≡ count_by waits (clusters ds) }
     {
         count_waiting(self.held.as_slice(), self.over as usize) as u32
+    }
+
+    /// The cluster that probes are sent for next, the waiting one with the least id, whether it is due or
+    /// not. `None` exactly where no cluster waits.
+    pub fn next_probe(&self) -> Option<NextProbe>
+        ensures value { result ≡ next_probe self.now.items }
+        ensures stands { (ds : List Deed) → StandsFor self.now.items ds → result ≡ next_probe (clusters ds) }
+    {
+        let id = current(self.held.as_slice(), self.over as usize)?;
+        Some(NextProbe {
+            id: id as u32,
+            rate: self.held[id].rate,
+        })
     }
 
     /// The id of the current cluster, the waiting one with the least id, where it is due: nothing was

@@ -3,6 +3,7 @@ use Rattle.std.proofs.Common.{◌≡◌, ℕ, ◌+◌, ◌<◌, ◌≤◌, List,
 use Rattle.std.specs.Prelude.{codes, Result, Ok, Err, OnOk}
 use Rattle.std.specs.Fmt.{decimal}
 use Rattle.std.specs.String.{string_bytes}
+use Rattle.std.proofs.lemmas.Int.{ints}
 use Rattle.std.proofs.lemmas.List.{append-nil, take-append-drop, get_or_append_left, get_or_at, drop_more, take_more, take_all}
 use Rattle.std.proofs.lemmas.List.Elements.{All-weaker}
 use Rattle.std.proofs.lemmas.Grind.{flat_map-append}
@@ -12,7 +13,7 @@ use Rattle.gcc_units.specs.declared.shared_types.Credit.{Credit}
 use Rattle.gcc_units.specs.declared.shared_types.Sample.{Sample}
 use Rattle.packet_groups.specs.Division.{GapsAreShort}
 use Rattle.packet_groups.specs.Groups.{samples}
-use Rattle.packet_groups.specs.Kept.{IsWithin, listed}
+use Rattle.packet_groups.specs.Kept.{IsOfJournal, IsWithin, listed}
 use Rattle.packet_groups.specs.Kept as grouped
 use Rattle.trendline.specs.KeptBySamples.{GapsStayWithin}
 use Rattle.send_core.specs.declared.call.Entry.{Entry}
@@ -35,17 +36,19 @@ all-front P xs ys all = λ k d below. subst P (front xs ys k d below) (all k d (
     front xs ys k d below = get_or_append_left xs ys d k below
 
 pub range-front : (xs ys : List Credit) → AreInRange (xs ++ ys) → AreInRange xs
-range-front xs ys range = record { within = all-front IsWithin xs ys range.within; few = omega (arith, range.few, length-append xs ys) }
+range-front xs ys range = record { within = all-front IsOfJournal xs ys range.within; few = omega (arith, range.few, length-append xs ys) }
 
 pub taken-of : GapsStayWithin → GapsAreShort → (cs : List Credit) → AreInRange cs → AreTaken (samples cs)
 taken-of stay short cs range = record {
   within = stay cs range.within range.few;
-  gaps = short cs GREATEST_MOMENT (All-weaker IsWithin (λ (c : Credit). c.sent_at ≤ GREATEST_MOMENT) (λ c h. h.sent_at) cs range.within);
+  gaps = short cs GREATEST_MOMENT (All-weaker IsOfJournal (λ (c : Credit). c.sent_at ≤ GREATEST_MOMENT) (λ c h. h.sent_at) cs range.within);
 }
 
 -- the last of these credits is in its ranges
 pub last-within : (cs : List Credit) (c : Credit) → AreInRange (cs ++ c ∷ []) → IsWithin c
-last-within cs c range = subst IsWithin (get_or_at cs c [] c (length cs) refl) (range.within (length cs) c (omega (arith, length-append cs (c ∷ []))))
+last-within cs c range =
+    let last : IsOfJournal c = subst IsOfJournal (get_or_at cs c [] c (length cs) refl) (range.within (length cs) c (omega (arith, length-append cs (c ∷ [])))) in
+    record { sent_at = last.sent_at; low = omega (arith, ints, last.low); high = omega (arith, ints, last.high) }
 
 -- ---- one credit more
 

@@ -3,7 +3,7 @@ use Rattle.std.specs.Prelude.{◌≡◌, ℕ, ◌≤◌, List, [], ◌∷◌, �
 use Rattle.std.specs.List.{flat_map}
 use Rattle.std.specs.String.{string_bytes}
 use Rattle.std.specs.Fmt.{decimal, signed_decimal}
-use Rattle.gcc_units.specs.declared.limits.TheConstants.{MOST_PACKETS}
+use Rattle.gcc_units.specs.declared.limits.TheConstants.{JOURNAL_PACKETS}
 use Rattle.gcc_units.specs.declared.shared_types.Credit.{Credit}
 use Rattle.gcc_units.specs.declared.shared_types.Sample.{Sample}
 use Rattle.gcc_units.specs.Walk.{each_by}
@@ -46,10 +46,10 @@ pub record IsSoFar (c : Comparing) (credits : List Credit) : Type 0 where
   pub beside : IsBeside c.beside (samples credits)
   pub text : string_bytes c.text ≡ compared_lines (samples credits)
 
--- few credits, in their ranges
+-- few credits, in the ranges of a journal's
 pub record AreInRange (credits : List Credit) : Type 0 where
-  pub within : All grouped.IsWithin credits
-  pub few : length credits ≤ MOST_PACKETS
+  pub within : All grouped.IsOfJournal credits
+  pub few : length credits ≤ JOURNAL_PACKETS
 
 -- With these credits, those that it was given are few, and in their ranges.
 abbrev pub TakesCredits : Comparing → List Credit → Type 0

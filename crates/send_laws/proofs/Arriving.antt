@@ -4,12 +4,12 @@ use Rattle.std.specs.List.{enumerate_from, AllByRecursion}
 use Rattle.std.proofs.lemmas.Int.{ints}
 use Rattle.std.proofs.lemmas.List.{append-nil, length-map, length-take}
 use Rattle.std.proofs.lemmas.List.Elements.{All-nil, All-cons, All-head, All-tail, All-append}
-use Rattle.gcc_units.specs.declared.limits.TheConstants.{GREATEST_MOMENT, GREATEST_ARRIVAL, MOST_ENTRIES, MOST_PACKETS, MOST_WAITING}
+use Rattle.gcc_units.specs.declared.limits.TheConstants.{GREATEST_MOMENT, JOURNAL_ARRIVAL, MOST_ENTRIES, JOURNAL_PACKETS, MOST_WAITING}
 use Rattle.gcc_units.specs.declared.shared_types.Credit.{Credit}
 use Rattle.gcc_units.specs.Unwrapping.{unwrapped}
 use Rattle.rtp_wire.specs.declared.packet.WireFault.{WireFault}
 use Rattle.rtp_wire.specs.Place.{place_of}
-use Rattle.packet_groups.specs.Kept.{IsWithin}
+use Rattle.packet_groups.specs.Kept.{IsOfJournal}
 use Rattle.twcc_report.specs.declared.fault.ReportFault.{ReportFault}
 use Rattle.twcc_report.specs.declared.report.Status.{Status}
 use Rattle.twcc_report.specs.declared.report.Status.TheVariants.{NotReceived, Small, Large}
@@ -19,7 +19,7 @@ use Rattle.twcc_report.specs.FewStatuses.{few_statuses}
 use Rattle.twcc_report.specs.Reading.{read_of}
 use Rattle.sent_history.specs.declared.slot.Outgoing.{Outgoing}
 use Rattle.sent_history.specs.Events.{Event, reported, packets, reports}
-use Rattle.sent_history.specs.Crediting.{Account, account, delta_of, total_delta, arrival, has, credit_for, verdict_on, kept_packet, verdict_if, verdict, verdict_at, number_at, judged, credit_in, credits_in, IsOfPacket, ArrivesInRange}
+use Rattle.sent_history.specs.Crediting.{Account, account, delta_of, total_delta, arrival, has, credit_for, verdict_on, kept_packet, verdict_if, verdict, verdict_at, number_at, judged, credit_in, credits_in, IsOfPacket}
 use Rattle.sent_history.specs.Laws.{judged_of_packets}
 use Rattle.sent_history.specs.Pushes.{account-push, reported_more}
 use Rattle.sent_history.proofs.Accounts.{IsNear, reference_near}
@@ -99,8 +99,12 @@ total-first k ss few fit =
 
 -- an arrival of which nothing but its range is known
 record IsInRange (z : ℤ) : Type 0 where
-  low : neg_ℤ GREATEST_ARRIVAL ≤ℤ z
-  high : z ≤ℤ GREATEST_ARRIVAL
+  low : neg_ℤ JOURNAL_ARRIVAL ≤ℤ z
+  high : z ≤ℤ JOURNAL_ARRIVAL
+
+record ArrivesNear (c : Credit) : Type 0 where
+  low : neg_ℤ JOURNAL_ARRIVAL ≤ℤ c.arrival
+  high : c.arrival ≤ℤ JOURNAL_ARRIVAL
 
 arrival-near : (es : List Event) (report : Feedback) (k : ℕ) → length (reports es) < MOST_ENTRIES → Fits report
     → IsInRange (arrival (unwrapped (account es).reference report.reference) report.statuses k)
@@ -112,28 +116,28 @@ arrival-near es report k few fits =
     let total : IsNear 2147483648 (total_delta (take (k + 1) report.statuses)) = total-first (k + 1) report.statuses fits.few fits.statuses in
     record { low = omega (arith, ints, near.low, total.low, more, few); high = omega (arith, ints, near.high, total.high, more, few) }
 
-on-range : (credited missed : Bool) (n : ℕ) (p : Outgoing) (s : Status) (z : ℤ) → IsInRange z → All ArrivesInRange (credit_in (verdict_on credited missed n p s z))
+on-range : (credited missed : Bool) (n : ℕ) (p : Outgoing) (s : Status) (z : ℤ) → IsInRange z → All ArrivesNear (credit_in (verdict_on credited missed n p s z))
 unfolding verdict_on
-on-range true missed n p s z range = All-nil ArrivesInRange
-on-range false true n p NotReceived z range = All-nil ArrivesInRange
-on-range false false n p NotReceived z range = All-nil ArrivesInRange
-on-range false missed n p (Small d) z range = All-cons ArrivesInRange (credit_for n p z) [] (record { low = range.low; high = range.high }) (All-nil ArrivesInRange)
-on-range false missed n p (Large d) z range = All-cons ArrivesInRange (credit_for n p z) [] (record { low = range.low; high = range.high }) (All-nil ArrivesInRange)
+on-range true missed n p s z range = All-nil ArrivesNear
+on-range false true n p NotReceived z range = All-nil ArrivesNear
+on-range false false n p NotReceived z range = All-nil ArrivesNear
+on-range false missed n p (Small d) z range = All-cons ArrivesNear (credit_for n p z) [] (record { low = range.low; high = range.high }) (All-nil ArrivesNear)
+on-range false missed n p (Large d) z range = All-cons ArrivesNear (credit_for n p z) [] (record { low = range.low; high = range.high }) (All-nil ArrivesNear)
 
-one-range : (a : Account) (s : Status) (o : Option ℕ) (z : ℤ) → IsInRange z → All ArrivesInRange (credit_in (verdict a s o z))
+one-range : (a : Account) (s : Status) (o : Option ℕ) (z : ℤ) → IsInRange z → All ArrivesNear (credit_in (verdict a s o z))
 unfolding verdict
-one-range a s None z range = All-nil ArrivesInRange
+one-range a s None z range = All-nil ArrivesNear
 one-range a s (Some n) z range = by_kept (kept_packet a.packets n)
   where
-    by_kept : (o : Option Outgoing) → All ArrivesInRange (credit_in (verdict_if a n s z o))
-    by_kept None = All-nil ArrivesInRange
+    by_kept : (o : Option Outgoing) → All ArrivesNear (credit_in (verdict_if a n s z o))
+    by_kept None = All-nil ArrivesNear
     by_kept (Some p) = on-range (has a.credited n) (has a.missed n) n p s z range
 
 all-range : (a : Account) (report : Feedback) → ((k : ℕ) → IsInRange (arrival (unwrapped a.reference report.reference) report.statuses k))
-    → (k : ℕ) (ss : List Status) → All ArrivesInRange (credits_in (map (verdict_at a report) (enumerate_from k ss)))
-all-range a report range k [] = All-nil ArrivesInRange
+    → (k : ℕ) (ss : List Status) → All ArrivesNear (credits_in (map (verdict_at a report) (enumerate_from k ss)))
+all-range a report range k [] = All-nil ArrivesNear
 all-range a report range k (s ∷ ss) =
-    All-append ArrivesInRange (credit_in (verdict_at a report (k, s))) (credits_in (map (verdict_at a report) (enumerate_from (k + 1) ss)))
+    All-append ArrivesNear (credit_in (verdict_at a report (k, s))) (credits_in (map (verdict_at a report) (enumerate_from (k + 1) ss)))
     (one-range a s (number_at a report.base k) (arrival (unwrapped a.reference report.reference) report.statuses k) (range k))
     (all-range a report range (k + 1) ss)
 
@@ -145,10 +149,10 @@ sent-within moment planned ps c early all of =
     All-slice_get (IsOutgoing moment planned) ps c.number (record { sent_at = c.sent_at; size = c.size; cluster = c.cluster }) all of in
     omega (arith, o.sent)
 
-judged-within : (h : List Entry) (report : Feedback) → Laws h → length h < MOST_ENTRIES → Fits report → All IsWithin (credits_in (judged (events h) report))
+judged-within : (h : List Entry) (report : Feedback) → Laws h → length h < MOST_ENTRIES → Fits report → All IsOfJournal (credits_in (judged (events h) report))
 judged-within h report laws short fits =
     let few : length (reports (events h)) < MOST_ENTRIES = omega (arith, laws.few_reports) in
-    let arrives : All ArrivesInRange (credits_in (judged (events h) report)) =
+    let arrives : All ArrivesNear (credits_in (judged (events h) report)) =
     all-range (account (events h)) report (λ k. arrival-near (events h) report k few fits) 0 report.statuses in
     let of : All (IsOfPacket (packets (events h))) (credits_in (judged (events h) report)) = judged_of_packets (events h) report in
     λ k d below.
@@ -204,18 +208,18 @@ brought-fits reads (Pace at) report bytes brings = absurd brings
 brought-fits reads (Report at bytes) report all brings = (((reads bytes.items all).reports report).0 brings).0
 brought-fits reads (Configure at change) report bytes brings = absurd brings
 
-within-rest : ReadsWithin → (before rest : List Entry) → IsLegal (before ++ rest) → HasLaws before → AreByteReports rest → All IsWithin (all_credits rest)
-within-rest reads before [] legal laws bytes = All-nil IsWithin
+within-rest : ReadsWithin → (before rest : List Entry) → IsLegal (before ++ rest) → HasLaws before → AreByteReports rest → All IsOfJournal (all_credits rest)
+within-rest reads before [] legal laws bytes = All-nil IsOfJournal
 within-rest reads before (e ∷ rest) legal laws bytes =
     let first : HasBytes e = All-head HasBytes e rest bytes in
     let short : length before < MOST_ENTRIES = omega (arith, legal.short, length-append before (e ∷ rest)) in
-    let here : All IsWithin (credits (reply before e.call)) =
-    credits-by (All IsWithin) before e.call (All-nil IsWithin)
+    let here : All IsOfJournal (credits (reply before e.call)) =
+    credits-by (All IsOfJournal) before e.call (All-nil IsOfJournal)
     (λ report brings. judged-within before report laws.0 short (brought-fits reads e.call report first brings)) in
-    All-append IsWithin (credits e.reply) (all_credits rest) (subst (λ r. All IsWithin (credits r)) (sym (answered-reply before rest e legal.each)) here)
+    All-append IsOfJournal (credits e.reply) (all_credits rest) (subst (λ r. All IsOfJournal (credits r)) (sym (answered-reply before rest e legal.each)) here)
     (within-rest reads (before ++ e ∷ []) rest (subst IsLegal (sym (append_assoc before (e ∷ []) rest)) legal) (laws-next before rest e legal.each first laws) (All-tail HasBytes e rest bytes))
 
-pub all-within : ReadsWithin → (h : List Entry) → IsLegal h → AreByteReports h → All IsWithin (all_credits h)
+pub all-within : ReadsWithin → (h : List Entry) → IsLegal h → AreByteReports h → All IsOfJournal (all_credits h)
 all-within reads h legal bytes = within-rest reads [] h legal (laws-first, more-first) bytes
 
 as-many : (h : List Entry) → length (all_credits h) ≡ length (credited_numbers h)
@@ -229,7 +233,7 @@ as-many (e ∷ rest) =
       as-many rest,
     )
 
-pub all-few : (h : List Entry) → IsLegal h → AreByteReports h → length (all_credits h) ≤ MOST_PACKETS
+pub all-few : (h : List Entry) → IsLegal h → AreByteReports h → length (all_credits h) ≤ JOURNAL_PACKETS
 all-few h legal bytes =
     let laws : Laws h = laws-of h legal.each bytes in
     omega (arith, as-many h, told-balanced h legal.each bytes, laws.few, legal.short)

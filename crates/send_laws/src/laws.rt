@@ -3,8 +3,8 @@
 //! hold, too. Each law is the contract of a function that does nothing.
 
 ghost use Rattle.std.specs.Prelude.{◌≡◌, ◌≢◌, ℕ, ◌+◌, ◌*◌, ◌≤◌, ◌↔◌, Some, None, List, [], ◌∷◌, ◌++◌, length, map, slice_index, All, AllPairs, Contains};
-ghost use Rattle.gcc_units.specs.declared.limits.TheConstants.{GREATEST_MOMENT, MOST_PACKETS};
-ghost use Rattle.packet_groups.specs.Kept.{IsWithin};
+ghost use Rattle.gcc_units.specs.declared.limits.TheConstants.{GREATEST_MOMENT, JOURNAL_PACKETS};
+ghost use Rattle.packet_groups.specs.Kept.{IsOfJournal};
 ghost use Rattle.twcc_report.specs.Spelling.{Feedback};
 ghost use Rattle.sent_history.specs.Crediting.{account, outstanding};
 ghost use Rattle.sent_history.specs.Balance.{IsOutstanding, IsNamedReceived, expired};
@@ -104,11 +104,11 @@ pub fn packets_balance()
         → length (sent history) ≡ length (credited_numbers history) + outstanding (events history) + expired (events history) }
 {}
 
-/// Law: the credits that the replies of a history list are few, and each was sent and arrived within
-/// what packet groups take. A history's reports are lists of bytes.
+/// Law: the credits that the replies of a journal's history list are few, and each was sent and arrived
+/// within what the trendline takes. A history's reports are lists of bytes.
 pub fn credits_are_in_range()
-    ensures few { (history : List Entry) → IsLegal history → AreByteReports history → length (all_credits history) ≤ MOST_PACKETS }
-    ensures within { (history : List Entry) → IsLegal history → AreByteReports history → All IsWithin (all_credits history) }
+    ensures few { (history : List Entry) → IsLegal history → AreByteReports history → length (all_credits history) ≤ JOURNAL_PACKETS }
+    ensures within { (history : List Entry) → IsLegal history → AreByteReports history → All IsOfJournal (all_credits history) }
 {
     reading_is_by_checks();
 }

@@ -113,6 +113,14 @@ fn entries_of(sender: &Sender, caller: u32) -> u32 {
     count
 }
 
+// What is seen after so many calls at the first target.
+fn seen(calls: u32) -> Glance {
+    Glance {
+        calls,
+        target: 300_000,
+    }
+}
+
 #[test]
 fn a_glance_sees_what_the_other_seat_did(rt: HostRuntime) -> Result<(), Fail> {
     let alloc = rt.alloc();
@@ -123,25 +131,11 @@ fn a_glance_sees_what_the_other_seat_did(rt: HostRuntime) -> Result<(), Fail> {
         room,
     } = opened(alloc)?;
     assert!(rt; is_accepted(&rt, alloc, &shared, &mut first, 1000, Class::Video, 0)?);
-    let glance = shared.glance(&mut second);
-    assert_eq!(rt;
-        glance,
-        Glance {
-            calls: 1,
-            target: 300_000
-        }
-    );
+    assert_eq!(rt; shared.glance(&mut second), seen(1));
     assert!(rt; is_accepted(&rt, alloc, &shared, &mut first, 1100, Class::Audio, 1)?);
     let note = shared.note(&mut first);
     shared.hear(&mut second, note);
-    let glance = shared.glance(&mut second);
-    assert_eq!(rt;
-        glance,
-        Glance {
-            calls: 2,
-            target: 300_000
-        }
-    );
+    assert_eq!(rt; shared.glance(&mut second), seen(2));
     let Some(sender) = closed(
         alloc,
         TwoSeats {

@@ -6,7 +6,7 @@ use Rattle.std.proofs.lemmas.List.{take_all}
 use Rattle.std.proofs.lemmas.List.Elements.{All-head, All-tail, All-push}
 use Rattle.circular_buffer.specs.Buffer.{Buffer, buffer, keep_last}
 use Rattle.gcc_units.specs.declared.shared_types.Sample.{Sample}
-use Rattle.gcc_units.specs.declared.limits.TheConstants.{GREATEST_DELAY, MOST_PACKETS}
+use Rattle.gcc_units.specs.declared.limits.TheConstants.{GREATEST_DELAY, JOURNAL_PACKETS}
 use Rattle.trendline.specs.declared.TheConstants.{MOST_POINTS, GREATEST_TIME}
 use Rattle.trendline.specs.declared.sums.Point.{Point}
 use Rattle.trendline.specs.declared.sums.Sums.{Sums}
@@ -110,11 +110,11 @@ point-small now last s last_is takes =
     subst Small (sym is) (record {
       x = subst Near (take_all (length (samples ++ s ∷ [])) (samples ++ s ∷ []) (omega arith)) (within.times (length (samples ++ s ∷ [])));
       y = near-wider (length (samples ++ s ∷ []) * unsigned_abs GREATEST_DELAY) most_delay (total delay_of (samples ++ s ∷ []))
-          (mul-le (length (samples ++ s ∷ [])) (unsigned_abs GREATEST_DELAY) MOST_PACKETS (unsigned_abs GREATEST_DELAY) within.few (omega arith))
+          (mul-le (length (samples ++ s ∷ [])) (unsigned_abs GREATEST_DELAY) JOURNAL_PACKETS (unsigned_abs GREATEST_DELAY) within.few (omega arith))
           (near-total delay_of (unsigned_abs GREATEST_DELAY) (samples ++ s ∷ []) within.delays);
     })
 
-pub count-few : (now : Kept) (s : Sample) → TakesSample now s → now.count + 1 ≤ MOST_PACKETS
+pub count-few : (now : Kept) (s : Sample) → TakesSample now s → now.count + 1 ≤ JOURNAL_PACKETS
 count-few now s takes = omega (arith, takes.1.count, takes.2.few, length-append takes.0 (s ∷ []))
 
 -- ---- the step

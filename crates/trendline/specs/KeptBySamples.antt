@@ -2,7 +2,7 @@
 use Rattle.std.specs.Prelude.{◌≡◌, ℕ, ◌+ℤ◌, ◌≤◌, unsigned_abs, List, [], ◌∷◌, ◌++◌, length, take, All}
 use Rattle.gcc_units.specs.declared.shared_types.Credit.{Credit}
 use Rattle.gcc_units.specs.declared.shared_types.Sample.{Sample}
-use Rattle.gcc_units.specs.declared.limits.TheConstants.{GREATEST_DELAY, MOST_PACKETS}
+use Rattle.gcc_units.specs.declared.limits.TheConstants.{GREATEST_DELAY, JOURNAL_PACKETS}
 use Rattle.packet_groups.specs.Groups as groups
 use Rattle.packet_groups.specs.Kept as grouped
 use Rattle.trendline.specs.declared.TheConstants.{GREATEST_TIME}
@@ -30,7 +30,7 @@ IsDelayWithin s = IsNear (unsigned_abs GREATEST_DELAY) s.d
 
 -- Few samples, with delays in their range, of which the first ones never take longer than the greatest time.
 pub record AreWithin (samples : List Sample) : Type 0 where
-  pub few : length samples ≤ MOST_PACKETS
+  pub few : length samples ≤ JOURNAL_PACKETS
   pub delays : All IsDelayWithin samples
   pub times : (k : ℕ) → IsNear GREATEST_TIME (total gap_of (take k samples))
 
@@ -48,6 +48,6 @@ MovesWithin p s = IsPointSmall (moved p s)
 
 -- ---- the law
 
--- of few credits in their ranges the samples are within
+-- of a journal's credits, few and in their ranges, the samples are within
 abbrev pub GapsStayWithin : Type 0
-GapsStayWithin = (credits : List Credit) → All grouped.IsWithin credits → length credits ≤ MOST_PACKETS → AreWithin (groups.samples credits)
+GapsStayWithin = (credits : List Credit) → All grouped.IsOfJournal credits → length credits ≤ JOURNAL_PACKETS → AreWithin (groups.samples credits)

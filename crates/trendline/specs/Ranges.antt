@@ -1,6 +1,6 @@
 -- Ranges of points and of sums over them, and what a window keeps.
 use Rattle.std.specs.Prelude.{◌≡◌, ℕ, ℤ, pos, neg_ℤ, ◌+ℤ◌, ◌-ℤ◌, ◌*ℤ◌, ◌≤ℤ◌, ◌*◌, ◌≤◌, unsigned_abs, List, length, All}
-use Rattle.gcc_units.specs.declared.limits.TheConstants.{GREATEST_DELAY, MOST_PACKETS}
+use Rattle.gcc_units.specs.declared.limits.TheConstants.{GREATEST_DELAY, JOURNAL_PACKETS}
 use Rattle.trendline.specs.declared.TheConstants.{MOST_POINTS, GREATEST_TIME}
 use Rattle.trendline.specs.declared.sums.Point.{Point}
 use Rattle.trendline.specs.declared.sums.Sums.{Sums}
@@ -13,7 +13,7 @@ pub record IsNear (most : ℕ) (z : ℤ) : Type 0 where
 
 -- all delays together
 abbrev pub most_delay : ℕ
-most_delay = MOST_PACKETS * unsigned_abs GREATEST_DELAY
+most_delay = JOURNAL_PACKETS * unsigned_abs GREATEST_DELAY
 
 pub record IsPointSmall (p : Point) : Type 0 where
   pub x : IsNear GREATEST_TIME p.x

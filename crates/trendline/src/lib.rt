@@ -93,7 +93,7 @@ impl Trend {
     }
 }
 
-/// The law of the gaps: the samples of any credits of a sender are within what a trend takes.
+/// The law of the gaps: the samples of any credits of a journal are within what a trend takes.
 pub fn gaps_stay_within()
     ensures { GapsStayWithin }
 {

@@ -4,7 +4,7 @@ use Rattle.loss_control.proofs.Loss.step.Goals as goal
 
 pub after-self-inside-requires-clause-few : goal.after-self-inside-requires-clause-few
 after-self-inside-requires-clause-few c =
-    let low : (c.args.self.now.received < 2 ^ 40) × (c.args.self.now.missing < 2 ^ 40) = counts-few c.args.self.now c.requires.few in
+    let low : (c.args.self.now.received < 2 ^ 46) × (c.args.self.now.missing < 2 ^ 46) = counts-few c.args.self.now c.requires.few in
     rw c.self.view_is (omega arith)
 
 pub returns-clause-stands : goal.returns-clause-stands

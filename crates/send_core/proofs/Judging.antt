@@ -14,12 +14,12 @@ use Rattle.sent_history.specs.Events.{Event, reported, packets, reports}
 use Rattle.sent_history.specs.Crediting.{told, judged, IsOfPacket, ArrivesInRange}
 use Rattle.sent_history.specs.Kept as history_kept
 use Rattle.probe_clusters.specs.declared.cluster.Cluster.{Cluster}
-use Rattle.probe_clusters.specs.Deeds.{Deed, Note, takings, rates, clusters, clusters_from, ReachedBy, IsWithin}
+use Rattle.probe_clusters.specs.Deeds.{Deed, Note, takings, rates, clusters, clusters_from}
 use Rattle.probe_clusters.specs.Deeds as probes
 use Rattle.estimator.specs.Signals.{IsSentBy}
 use Rattle.estimator.specs.Report.{found, NamesPlanned}
 use Rattle.estimator.specs.Est.{Est, judged_est, estimate}
-use Rattle.estimator.specs.Kept.{IsInRange, IsUntil, TakesReport}
+use Rattle.estimator.specs.Kept.{IsInRange}
 use Rattle.estimator.proofs.Until.{until-later}
 use Rattle.estimator.specs.Kept as estimator
 use Rattle.gcc_units.specs.declared.shared_types.Share.{Share}

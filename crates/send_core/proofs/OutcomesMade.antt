@@ -6,7 +6,7 @@ use Rattle.gcc_units.specs.Listed.{Listed, bare}
 use Rattle.allocator.specs.Shares.{shares}
 use Rattle.pacer.specs.State.{tuned}
 use Rattle.probe_clusters.specs.declared.cluster.Cluster.{Cluster}
-use Rattle.probe_clusters.specs.Deeds.{Deed, Plan, Note, takings}
+use Rattle.probe_clusters.specs.Deeds.{Deed, Note, takings}
 use Rattle.probe_clusters.specs.Deeds as probes
 use Rattle.estimator.specs.declared.estimate.Estimate.{Estimate}
 use Rattle.estimator.specs.Report.{found}

@@ -1,6 +1,6 @@
 -- The parts that stood for a history stand for it with one more entry.
 use Rattle.std.proofs.Common.{◌≡◌, ℕ, ◌+◌, ◌-◌, ◌||◌, List, [], ◌∷◌, ◌++◌, length, fold, min, sym, ◌∙◌, ap, subst, length-append}
-use Rattle.pace_budget.specs.Level.{Deed, Advance}
+use Rattle.pace_budget.specs.Level.{Advance}
 use Rattle.pace_budget.specs.Level as bucket
 use Rattle.pace_budget.specs.Steps.{step}
 use Rattle.pace_budget.proofs.Steps.{StandsFor-steps}

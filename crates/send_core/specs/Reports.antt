@@ -5,9 +5,10 @@ use Rattle.gcc_units.specs.Walk.{walk}
 use Rattle.twcc_report.specs.declared.fault.ReportFault.{ReportFault}
 use Rattle.twcc_report.specs.Spelling.{Feedback}
 use Rattle.twcc_report.specs.Reading.{read_of}
+use Rattle.sent_history.specs.declared.finding.Finding.{Finding}
 use Rattle.sent_history.specs.declared.slot.Outgoing.{Outgoing}
 use Rattle.sent_history.specs.Events.{Event, added, reported}
-use Rattle.sent_history.specs.Crediting.{judged}
+use Rattle.sent_history.specs.Crediting.{findings, judged}
 use Rattle.probe_clusters.specs.Deeds.{Deed, Plan, Note, takings}
 use Rattle.pacer.specs.declared.sent.Sent.{Sent}
 use Rattle.pacer.specs.declared.sent.Kind.{Kind}
@@ -48,6 +49,14 @@ events_by call given = []
 
 abbrev pub events : List Entry → List Event
 events history = flat_map (λ (e : Entry). events_by e.call e.reply) history
+
+-- what a report tells of packets for the first time; nothing where the bytes spell no report
+abbrev pub findings_read : List Event → Result Feedback ReportFault → List Finding
+findings_read es (Ok report) = findings (judged es report)
+findings_read es (Err fault) = []
+
+abbrev pub findings_by : List Entry → List ℕ → List Finding
+findings_by history bytes = findings_read (events history) (read_of bytes)
 
 -- ---- clusters
 

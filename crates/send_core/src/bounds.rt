@@ -1,25 +1,11 @@
 //! How long the lists of a reply may get, known before they are made.
 
-ghost use Rattle.std.specs.Prelude.{◌≡◌, ◌≤◌, count_by};
-ghost use Rattle.sent_history.specs.Crediting.{is_received};
+ghost use Rattle.std.specs.Prelude.{◌≡◌, ◌≤◌};
 ghost use Rattle.send_core.specs.Bounds.{is_quiet, most_paced, most_sends};
 
 use crate::call::Call;
 use crate::parts::Parts;
 use gcc_units::MOST_SENDS;
-use sent_history::is_received;
-use twcc_report::StatusList;
-
-/// How many packets the statuses name received.
-pub fn count_received(statuses: &StatusList) -> u32
-    ensures { result ≡ count_by is_received statuses.now.items }
-{
-    let statuses = statuses.as_slice();
-    statuses
-        .iter()
-        .filter(|status| is_received(**status))
-        .count() as u32
-}
 
 // Whether no cluster waits and no padding is asked for.
 fn is_quiet(parts: &Parts) -> bool

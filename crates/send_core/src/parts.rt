@@ -3,7 +3,6 @@
 ghost use Rattle.std.specs.Prelude.{◌≡◌, ◌≤◌, ◌<◌, [], List, length, max, OnErr, IfOk};
 ghost use Rattle.gcc_units.specs.Listed.{bare};
 
-use crate::bounds::count_received;
 use crate::call::{Call, Cause, Change, Reply};
 use crate::checks::{MOST_PLANS, fault_of, has_any};
 use crate::copies::{Rooms, room};
@@ -21,9 +20,9 @@ use pace_queues::Ticket;
 use pacer::{Pacer, Pacing, SentList};
 use probe_clusters::Clusters;
 use rtp_wire::read_wire;
-use sent_history::History;
+use sent_history::{FindingList, History, count_received};
 use std::alloc::Global;
-use twcc_report::{ReadReport, read_report};
+use twcc_report::{ReadReport, read_compact, read_report};
 
 // What was judged, without memory that no credit uses.
 fn trimmed(judged: Judged) -> Judged
@@ -64,6 +63,7 @@ impl Parts {
     ghost use Rattle.send_core.specs.Outcomes.{TakesJudged, Credits, Configures};
     ghost use Rattle.send_core.specs.Planning.{CanPlan};
     ghost use Rattle.send_core.specs.Reply.{standing};
+    ghost use Rattle.send_core.specs.Reports.{findings_by};
     ghost use Rattle.send_core.specs.Settings.{fault_of, plans, settings_after};
     ghost use Rattle.send_core.specs.Settled.{IsSettled, HasRoom, credits_by, shares_by};
     ghost use Rattle.send_core.specs.Bounds.{most_paced, most_sends};
@@ -258,7 +258,7 @@ impl Parts {
             let rooms = room(alloc, 0, 0, 0)?;
             return Ok((self.refuse_late(), rooms));
         }
-        let report = match read_report(alloc, bytes.as_slice()) {
+        let report = match read_compact(alloc, bytes.as_slice()) {
             Ok(report) => report,
             Err(ReadReport::NoMemory) => return Err(NoMemory),
             Err(ReadReport::Fault(fault)) => {
@@ -267,11 +267,26 @@ impl Parts {
                 return Ok((self.refuse(Cause::Report(fault)), rooms));
             }
         };
-        let rooms = room(alloc, 0, count_received(&report.statuses), MOST_STREAMS)?;
+        let rooms = room(alloc, 0, count_received(report.runs()), MOST_STREAMS)?;
         let shares = room(alloc, 0, 0, MOST_STREAMS)?.shares;
         let judged = self.history.credit(alloc, &report)?;
         self.move_to(at);
         Ok((self.credited(judged, shares), rooms))
+    }
+
+    /// What a report would tell of packets for the first time, in the order of its statuses; nothing where
+    /// the bytes are no report.
+    pub fn findings(&self, alloc: Global, bytes: &Bytes) -> Result<FindingList, NoMemory>
+        requires { StandsForShort self.now }
+        ensures { IfOk result (λ list. (history : List Entry) → StandsFor self.now history → list ≡ bare (findings_by history bytes.now.items)) }
+    {
+        let report = match read_report(alloc, bytes.as_slice()) {
+            Ok(report) => report,
+            Err(ReadReport::NoMemory) => return Err(NoMemory),
+            Err(ReadReport::Fault(_fault)) => return Ok(FindingList::new(alloc)),
+        };
+        let found = self.history.findings(alloc, &report)?;
+        Ok(found)
     }
 
     // What follows of a report that was judged.

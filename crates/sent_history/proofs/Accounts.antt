@@ -46,14 +46,14 @@ reference_near events =
     record { low = omega (arith, ints, all.low); high = omega (arith, ints, all.high) }
 
 -- before a report that may come, the last reference is no more than 2^43 from 0
-pub last_near : (h : Kept) (last : ℤ) → last ≡ h.reference → TakesReport h → IsNear 8796093022208 last
+pub last_near : (h : Kept) (last : ℤ) → last ≡ h.reference → TakesReport h → IsNear 9007199254740992 last
 last_near h last is room =
     let near : IsNear (8388608 * length (reports room.0)) (account room.0).reference = reference_near room.0 in
     record { low = omega (arith, ints, near.low, is, room.1.reference, room.3); high = omega (arith, ints, near.high, is, room.1.reference, room.3) }
 
 -- its own is less than 2^44 from 0
-pub next_near : (h : Kept) (last low r : ℤ) → last ≡ h.reference → TakesReport h → IsNearest (to_z w64 (of_z w64 last)) low r → IsNear 17592186044416 r
+pub next_near : (h : Kept) (last low r : ℤ) → last ≡ h.reference → TakesReport h → IsNearest (to_z w64 (of_z w64 last)) low r → IsNear 9007199263129600 r
 next_near h last low r is room nearest =
-    let near : IsNear 8796093022208 last = last_near h last is room in
+    let near : IsNear 9007199254740992 last = last_near h last is room in
     let same : to_z w64 (of_z w64 last) ≡ last = omega (arith, ints, near.low, near.high) in
     record { low = omega (arith, ints, near.low, near.high, same, nearest.low); high = omega (arith, ints, near.low, near.high, same, nearest.high) }

@@ -6,3 +6,8 @@ pub mod Slots
 pub mod Telling
 pub mod Runs
 pub mod Counts
+pub mod Findings
+pub mod Bits
+pub mod FreshKept
+pub mod Stretched
+pub mod ByRuns

@@ -1,9 +1,7 @@
--- The loop over the statuses of a report.
-use Rattle.std.proofs.Common.{◌≡◌, ℕ, ℤ, neg_ℤ, suc, ◌+◌, ◌%◌, ◌<◌, ◌+ℤ◌, ◌≤ℤ◌, Bool, true, false, List, [], ◌∷◌, ◌++◌, length, cond, count_by, ◌≤◌, drop, get_or, Option, Some, None, All, ap, sym, ◌∙◌, arith, append_assoc, append-nil, drop-cons}
+-- The credits of one status: how many, and when they arrived.
+use Rattle.std.proofs.Common.{◌≡◌, ℕ, ℤ, neg_ℤ, ◌≤ℤ◌, Bool, true, false, List, [], ◌∷◌, ◌++◌, length, cond, ◌≤◌, Option, Some, None, All, ap, ◌∙◌, arith, append-nil}
 use Rattle.std.proofs.lemmas.List.Elements.{All-append, All-nil, All-cons}
-use Rattle.std.proofs.lemmas.List.Sums.{sum_by-drop_more}
 use Rattle.std.proofs.lemmas.Grind.{flat_map-append}
-use Rattle.gcc_units.specs.Unwrapping.{named_number}
 use Rattle.gcc_units.specs.declared.limits.TheConstants.{GREATEST_ARRIVAL}
 use Rattle.gcc_units.specs.declared.shared_types.Credit.{Credit}
 use Rattle.twcc_report.specs.declared.report.Status.{Status}
@@ -11,25 +9,8 @@ use Rattle.twcc_report.specs.declared.report.Status.TheVariants.{NotReceived, Sm
 use Rattle.sent_history.specs.declared.slot.Outgoing.{Outgoing}
 use Rattle.sent_history.specs.declared.slot.Slot.{Slot}
 use Rattle.sent_history.specs.declared.slot.Verdict.{Verdict}
-use Rattle.sent_history.specs.Crediting.{is_received, delta_of, verdict_on, credit_for, credit_in, credits_in, ArrivesInRange}
-use Rattle.sent_history.specs.Judging.{kept_slot, slot_verdict_if, slot_verdict, running}
-
-pub goes_on : (judge : Status → Option ℕ → ℤ → Verdict) (sent low : ℕ) (arrived then : ℤ) (statuses : List Status) (i : ℕ)
-    (before : List Verdict) (v : Verdict) (all : List Verdict) → i < length statuses
-    → v ≡ judge (get_or statuses i NotReceived) (named_number sent low) then → then ≡ (arrived +ℤ delta_of (get_or statuses i NotReceived))
-    → before ++ running judge sent low arrived (drop i statuses) ≡ all
-    → (before ++ v ∷ []) ++ running judge sent ((low + 1) % 65536) then (drop (i + 1) statuses) ≡ all
-goes_on judge sent low arrived then statuses i before v all lt ev et so_far =
-    let s : Status = get_or statuses i NotReceived in
-    let rest : List Status = drop (suc i) statuses in
-    let next : i + 1 ≡ suc i = omega arith in
-    let tail : ℤ → List Verdict = λ (z : ℤ). judge s (named_number sent low) z ∷ running judge sent ((low + 1) % 65536) z rest in
-    append_assoc before (v ∷ []) (running judge sent ((low + 1) % 65536) then (drop (i + 1) statuses))
-    ∙ ap (λ m. before ++ (v ∷ running judge sent ((low + 1) % 65536) then (drop m statuses))) next
-    ∙ ap (λ (x : Verdict). before ++ (x ∷ running judge sent ((low + 1) % 65536) then rest)) ev
-    ∙ ap (λ z. before ++ tail z) et
-    ∙ ap (λ (xs : List Status). before ++ running judge sent low arrived xs) (sym (drop-cons statuses i NotReceived lt))
-    ∙ so_far
+use Rattle.sent_history.specs.Crediting.{is_received, verdict_on, credit_for, credit_in, credits_in, ArrivesInRange}
+use Rattle.sent_history.specs.Judging.{kept_slot, slot_verdict_if, slot_verdict}
 
 InRange : ℤ → Type 0
 InRange z = (neg_ℤ GREATEST_ARRIVAL ≤ℤ z) × (z ≤ℤ GREATEST_ARRIVAL)
@@ -83,8 +64,3 @@ pub few_credits : (slots : List Slot) (sent : ℕ) (status : Status) (o : Option
 unfolding slot_verdict
 few_credits slots sent status None arrived = omega arith
 few_credits slots sent status (Some n) arrived = few_if n status arrived (kept_slot slots sent n)
-
--- the room of the statuses to come, with the next of them apart
-pub room_splits : (statuses : List Status) (i : ℕ) → i < length statuses
-    → count_by is_received (drop i statuses) ≡ bit (is_received (get_or statuses i NotReceived)) + count_by is_received (drop (i + 1) statuses)
-room_splits statuses i lt = sum_by-drop_more (λ (s : Status). bit (is_received s)) statuses i NotReceived lt

@@ -17,6 +17,7 @@ use Rattle.sent_history.specs.Crediting.{Account, start, has, delta_of, verdict_
 use Rattle.sent_history.specs.Judging.{kept_slot, slot_verdict_if, slot_verdict, running, all_marks}
 use Rattle.sent_history.specs.Laws.{kept_packet-near, kept_packet-past}
 use Rattle.sent_history.specs.Kept.{Kept, IsSlot, Keeps}
+use Rattle.sent_history.specs.Stretches.{Agrees}
 use Rattle.sent_history.proofs.Numbers.{numbers, credits_it, misses_it, has_more, credits_more, misses_more, others, named_below}
 use Rattle.sent_history.proofs.Marks.{packet_law, credit_law, miss_law}
 use Rattle.sent_history.proofs.Places.{by_running}
@@ -64,11 +65,11 @@ account_is_sound events = sound_from start events (record { credited = λ n past
 
 -- ---- which packets are kept
 
-slot_there : (slots : List Slot) (sent n : ℕ) → sent - length slots ≤ n → kept_slot slots sent n ≡ slice_get slots (n - (sent - length slots))
+pub slot_there : (slots : List Slot) (sent n : ℕ) → sent - length slots ≤ n → kept_slot slots sent n ≡ slice_get slots (n - (sent - length slots))
 unfolding kept_slot
 slot_there slots sent n le = rw (le-ltb n (sent - length slots) le) refl
 
-slot_gone : (slots : List Slot) (sent n : ℕ) → n < sent - length slots → kept_slot slots sent n ≡ None
+pub slot_gone : (slots : List Slot) (sent n : ℕ) → n < sent - length slots → kept_slot slots sent n ≡ None
 unfolding kept_slot
 slot_gone slots sent n lt = rw (lt-ltb n (sent - length slots) lt) refl
 
@@ -241,34 +242,45 @@ reported_slot a report n s small near slot =
           ∙ sym (has_more a.missed (missing_numbers (verdicts a report)) n);
     }
 
-pub keeps_reported : (h : Kept) (a : Account) (report : Feedback) (slots : List Slot) (reference : ℤ) → report.base < 65536 → Keeps h a
+agreeing : (a : Account) (n : ℕ) (s t : Slot) → Agrees s t → IsSlot a n t → IsSlot a n s
+agreeing a n s t same slot = record {
+  packet = slot.packet ∙ ap Some (sym same.packet);
+  credited = same.credited ∙ slot.credited;
+  missed = λ e. let f : t.credited ≡ false = sym same.credited ∙ e in same.missed f ∙ slot.missed f;
+}
+
+pub keeps_agreed : (h : Kept) (a : Account) (report : Feedback) (slots : List Slot) (reference : ℤ) → report.base < 65536 → Keeps h a
     → length slots ≡ length h.slots
-    → ((k : ℕ) (d : Slot) → k < length h.slots → slice_index_or slots k d ≡ all_marks h.sent report.base report.statuses (h.sent - length h.slots + k) (slice_index_or h.slots k d))
+    → ((k : ℕ) (d : Slot) → k < length h.slots
+    → Agrees (slice_index_or slots k d) (all_marks h.sent report.base report.statuses (h.sent - length h.slots + k) (slice_index_or h.slots k d)))
     → reference ≡ unwrapped h.reference report.reference
     → Keeps (record { sent = h.sent; slots = slots; reference = reference }) (after a (reported report))
-keeps_reported h a report slots reference small keep len marks e =
+keeps_agreed h a report slots reference small keep len marks e =
     record {
       sent = keep.sent;
       window = len ∙ keep.window;
       slots = λ k d lt. let inside : k < length h.slots = omega (arith, len, lt) in
           let n : ℕ = length a.packets - length h.slots + k in
           let near : length a.packets ≤ n + KEPT_PACKETS = omega (arith, keep.window) in
-          let slot = reported_slot a report n (slice_index_or h.slots k d) small near (keep.slots k d inside) in
-          let mark : all_marks (length a.packets) report.base report.statuses n (slice_index_or h.slots k d) ≡ slice_index_or slots k d =
-          ap (λ m. all_marks m report.base report.statuses (m - length h.slots + k) (slice_index_or h.slots k d)) (sym keep.sent) ∙ sym (marks k d inside) in
+          let s : Slot = slice_index_or h.slots k d in
+          let mark : Agrees (slice_index_or slots k d) (all_marks (length a.packets) report.base report.statuses n s) =
+          subst (λ (m : ℕ). Agrees (slice_index_or slots k d) (all_marks m report.base report.statuses (m - length h.slots + k) s)) keep.sent (marks k d inside) in
           let place : n ≡ length a.packets - length slots + k = ap (λ m. length a.packets - m + k) (sym len) in
           subst (λ (m : ℕ). IsSlot (after a (reported report)) m (slice_index_or slots k d)) place
-          (subst (λ (t : Slot). IsSlot (after a (reported report)) n t) mark slot);
+          (agreeing (after a (reported report)) n _ _ mark (reported_slot a report n s small near (keep.slots k d inside)));
       reference = e ∙ ap (λ z. unwrapped z report.reference) keep.reference;
     }
 
+pub agrees_same : (s t : Slot) → s ≡ t → Agrees s t
+agrees_same s t e = record { packet = ap (λ (x : Slot). x.packet) e; credited = ap (λ (x : Slot). x.credited) e; missed = λ f. ap (λ (x : Slot). x.missed) e }
+
 -- the marks, said of other names of the lists
-pub marks_of : (new old slots : List Slot) (sent base : ℕ) (given statuses : List Status) → old ≡ slots → given ≡ statuses
-    → ((k : ℕ) (d : Slot) → k < length old → slice_index_or new k d ≡ all_marks sent base given (sent - length old + k) (slice_index_or old k d))
-    → (k : ℕ) (d : Slot) → k < length slots → slice_index_or new k d ≡ all_marks sent base statuses (sent - length slots + k) (slice_index_or slots k d)
-marks_of new old slots sent base given statuses eo es marks =
-    subst (λ (xs : List Slot). (k : ℕ) (d : Slot) → k < length xs → slice_index_or new k d ≡ all_marks sent base statuses (sent - length xs + k) (slice_index_or xs k d)) eo
-    (subst (λ (ss : List Status). (k : ℕ) (d : Slot) → k < length old → slice_index_or new k d ≡ all_marks sent base ss (sent - length old + k) (slice_index_or old k d)) es marks)
+pub agreed_of : (new old slots : List Slot) (sent base : ℕ) (given statuses : List Status) → old ≡ slots → given ≡ statuses
+    → ((k : ℕ) (d : Slot) → k < length old → Agrees (slice_index_or new k d) (all_marks sent base given (sent - length old + k) (slice_index_or old k d)))
+    → (k : ℕ) (d : Slot) → k < length slots → Agrees (slice_index_or new k d) (all_marks sent base statuses (sent - length slots + k) (slice_index_or slots k d))
+agreed_of new old slots sent base given statuses eo es marks =
+    subst (λ (xs : List Slot). (k : ℕ) (d : Slot) → k < length xs → Agrees (slice_index_or new k d) (all_marks sent base statuses (sent - length xs + k) (slice_index_or xs k d))) eo
+    (subst (λ (ss : List Status). (k : ℕ) (d : Slot) → k < length old → Agrees (slice_index_or new k d) (all_marks sent base ss (sent - length old + k) (slice_index_or old k d))) es marks)
 
 -- what the code judges, said of other names
 pub judged_are : (h : Kept) (a : Account) (report : Feedback) (slots : List Slot) (first : ℤ) (statuses : List Status) → report.base < 65536 → Keeps h a

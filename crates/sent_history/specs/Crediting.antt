@@ -9,6 +9,8 @@ use Rattle.gcc_units.specs.declared.shared_types.Judged.{Judged}
 use Rattle.twcc_report.specs.Spelling.{Feedback}
 use Rattle.twcc_report.specs.declared.report.Status.{Status}
 use Rattle.twcc_report.specs.declared.report.Status.TheVariants.{NotReceived, Small, Large}
+use Rattle.sent_history.specs.declared.finding.Finding.{Finding}
+use Rattle.sent_history.specs.declared.finding.Finding.TheVariants as finding
 use Rattle.sent_history.specs.declared.slot.Outgoing.{Outgoing}
 use Rattle.sent_history.specs.declared.slot.Verdict.{Verdict}
 use Rattle.sent_history.specs.declared.slot.Verdict.TheVariants.{Received, Missing, Unknown, Repeated}
@@ -121,6 +123,17 @@ credits_in judgements = flat_map credit_in judgements
 
 abbrev pub missing_numbers : List Verdict → List ℕ
 missing_numbers judgements = flat_map missing_in judgements
+
+-- what a verdict tells of a packet for the first time
+abbrev pub finding_in : Verdict → List Finding
+finding_in (Received credit) = finding.Credited credit ∷ []
+finding_in (Missing n) = finding.Missing n ∷ []
+finding_in Unknown = []
+finding_in Repeated = []
+
+-- what they tell of packets for the first time, in their order
+abbrev pub findings : List Verdict → List Finding
+findings judgements = flat_map finding_in judgements
 
 -- the answer that tells these verdicts
 abbrev pub told : List Verdict → Judged

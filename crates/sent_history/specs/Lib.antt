@@ -2,6 +2,9 @@ pub mod Events
 pub mod Crediting
 pub mod Kept
 pub mod Judging
+pub mod Fresh
+pub mod Stretches
+pub mod InRuns
 pub mod Pushes
 pub mod Balance
 pub mod Laws

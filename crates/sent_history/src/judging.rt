@@ -8,7 +8,7 @@ ghost use Rattle.sent_history.specs.declared.slot.Verdict.{Verdict};
 ghost use Rattle.sent_history.specs.Crediting.{is_received, delta_of, verdict_on, credit_in, told, ArrivesInRange};
 ghost use Rattle.sent_history.specs.Judging.{kept_slot, slot_verdict, running, settled, marked, marked_if, is_number, all_marks};
 
-use crate::ring::Ring;
+use crate::kept_slots::KeptSlots;
 use crate::slot::{Slot, Verdict};
 use gcc_units::{Credit, Judged, MOST_STATUSES, NoMemory, Sequence, unwrap16};
 use std::alloc::Global;
@@ -26,7 +26,7 @@ pub fn is_received(status: Status) -> bool
 }
 
 /// How much later than the packet received before it, in quarter-milliseconds.
-fn delta_of(status: Status) -> i64
+pub(crate) fn delta_of(status: Status) -> i64
     ensures value { result ≡ delta_of status }
     ensures low { neg_ℤ (pos 32768) ≤ℤ result }
     ensures high { result ≤ℤ pos 32768 }
@@ -40,7 +40,7 @@ fn delta_of(status: Status) -> i64
 
 /// The slot of a packet, where it is kept.
 #[tactic(auto, unfolding(crate::specs::Judging::kept_slot))]
-fn kept_slot(slots: &Ring, sent: u64, number: u64) -> Option<&Slot>
+fn kept_slot(slots: &KeptSlots, sent: u64, number: u64) -> Option<&Slot>
     requires { length slots.now ≤ sent }
     ensures { option_copied result ≡ kept_slot slots.now sent number }
 {
@@ -78,7 +78,13 @@ fn verdict_on(slot: &Slot, number: u64, status: Status, arrival: i64) -> Verdict
 
 /// The verdict on a status that names by these low 16 bits.
 #[tactic(auto, unfolding(crate::specs::Judging::slot_verdict))]
-fn verdict_at(slots: &Ring, sent: u64, low: u16, status: Status, arrival: i64) -> Verdict
+pub(crate) fn verdict_at(
+    slots: &KeptSlots,
+    sent: u64,
+    low: u16,
+    status: Status,
+    arrival: i64,
+) -> Verdict
     requires { length slots.now ≤ sent }
     ensures { result ≡ slot_verdict slots.now sent status (named_number sent low) arrival }
 {
@@ -91,19 +97,8 @@ fn verdict_at(slots: &Ring, sent: u64, low: u16, status: Status, arrival: i64) -
     }
 }
 
-/// How many statuses say that their packet was received.
-fn received_count(statuses: &[Status]) -> u32
-    requires { length statuses.now ≤ MOST_STATUSES }
-    ensures { result ≡ count_by is_received statuses.now }
-{
-    statuses
-        .iter()
-        .filter(|status| is_received(**status))
-        .count() as u32
-}
-
 /// Adds a verdict to those that are told. There is room for a credit.
-fn tell(judged: &mut Judged, verdict: Verdict)
+pub(crate) fn tell(judged: &mut Judged, verdict: Verdict)
     requires few { (before : List Verdict) × (settled judged.old ≡ told before) × (length before < MOST_STATUSES) }
     requires room { length (credit_in verdict) ≤ judged.old.received.spare }
     ensures told { (before : List Verdict) → settled judged.old ≡ told before
@@ -118,42 +113,6 @@ fn tell(judged: &mut Judged, verdict: Verdict)
     }
 }
 
-/// Judges the statuses in order, by what was said of the packets before. The first delta counts from `start`.
-/// Memory is taken once, for the statuses that say received.
-pub fn judge(
-    alloc: Global,
-    slots: &Ring,
-    sent: u64,
-    base: u16,
-    start: i64,
-    statuses: &[Status],
-) -> Result<Judged, NoMemory>
-    requires slots { length slots.now ≤ sent }
-    requires few { length statuses.now ≤ MOST_STATUSES }
-    requires low { neg_ℤ (pos (2 ^ 52)) ≤ℤ start }
-    requires high { start ≤ℤ pos (2 ^ 52) }
-    ensures verdicts { IfOk result (λ j. j
-        ≡ told (running (slot_verdict slots.now sent) sent base start statuses.now)) }
-    ensures arrivals { IfOk result (λ j. All ArrivesInRange j.received.items) }
-{
-    let mut judged = Judged {
-        received: Sequence::new(alloc),
-        missing: 0,
-        unknown: 0,
-        repeated: 0,
-    };
-    judged.received.reserve(received_count(statuses))?;
-    let mut low = base;
-    let mut arrival = start;
-    for status in statuses {
-        arrival += delta_of(*status);
-        tell(&mut judged, verdict_at(slots, sent, low, *status, arrival));
-        low = low.wrapping_add(1);
-    }
-    judged.received.trim();
-    Ok(judged)
-}
-
 /// Marks a packet by what a status says of it.
 fn mark(slot: &mut Slot, status: Status)
     ensures { slot.new ≡ marked status slot.old }
@@ -166,7 +125,7 @@ fn mark(slot: &mut Slot, status: Status)
 }
 
 /// Marks the packet that a status names, where it is kept.
-fn mark_number(slots: &mut Ring, sent: u64, low: u16, status: Status)
+pub(crate) fn mark_number(slots: &mut KeptSlots, sent: u64, low: u16, status: Status)
     requires { length slots.old ≤ sent }
     ensures length { length slots.new ≡ length slots.old }
     ensures marks { (k : ℕ) (d : Slot) → k < length slots.old
@@ -184,20 +143,5 @@ fn mark_number(slots: &mut Ring, sent: u64, low: u16, status: Status)
             mark(&mut slot, status);
             slots.replace(place, slot);
         }
-    }
-}
-
-/// Marks the packets that the statuses name.
-pub fn mark_all(slots: &mut Ring, sent: u64, base: u16, statuses: &[Status])
-    requires { length slots.old ≤ sent }
-    ensures length { length slots.new ≡ length slots.old }
-    ensures marks { (k : ℕ) (d : Slot) → k < length slots.old
-        → slice_index_or slots.new k d
-        ≡ all_marks sent base statuses.now (sent - length slots.old + k) (slice_index_or slots.old k d) }
-{
-    let mut low = base;
-    for status in statuses {
-        mark_number(slots, sent, low, *status);
-        low = low.wrapping_add(1);
     }
 }

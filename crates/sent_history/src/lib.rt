@@ -10,12 +10,19 @@
 //! twice.
 #![tactic(auto)]
 
+mod compact;
+mod finding;
 mod history;
 mod judging;
+mod kept_slots;
 mod laws;
+mod lost;
+mod place_set;
 mod ring;
 mod slot;
 
+pub use compact::count_received;
+pub use finding::{Finding, FindingList};
 pub use history::History;
 pub use judging::is_received;
 pub use laws::{

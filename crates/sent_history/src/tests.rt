@@ -7,7 +7,7 @@ use gcc_units::Credit;
 use std::alloc::Global;
 use std::process::Abort;
 use std::test::Fail;
-use twcc_report::read_report;
+use twcc_report::read_compact;
 
 const ONE_REPORT: &[u8] = &[
     0x8f, 0xcd, 0x00, 0x06, 0x00, 0x00, 0x00, 0x01, 0x00, 0x00, 0x00, 0x02, 0x00, 0x00, 0x00, 0x03,
@@ -59,6 +59,13 @@ const FALLING_ARRIVALS: &[u8] = &[
     0x00, 0x00, 0x01, 0x00, 0x40, 0x03, 0x0b, 0xb8, 0xf6, 0x3c, 0xfe, 0xd4,
 ];
 
+/// 65,535 statuses, none of them received.
+const ALL_LOST: &[u8] = &[
+    0x8f, 0xcd, 0x00, 0x09, 0x00, 0x00, 0x00, 0x01, 0x00, 0x00, 0x00, 0x02, 0x00, 0x00, 0xff, 0xff,
+    0x00, 0x00, 0x01, 0x00, 0x1f, 0xff, 0x1f, 0xff, 0x1f, 0xff, 0x1f, 0xff, 0x1f, 0xff, 0x1f, 0xff,
+    0x1f, 0xff, 0x1f, 0xff, 0x00, 0x07, 0x00, 0x00,
+];
+
 /// A report, the numbers and arrivals that it credits, how many are missing, unknown and repeated, and how
 /// many packets are outstanding then.
 #[derive(Clone, Copy)]
@@ -68,7 +75,7 @@ struct Row(&'static [u8], &'static [(u64, i64)], u32, u32, u32, u32);
 #[derive(Clone, Copy)]
 struct Run(u64, &'static [Row]);
 
-const RUNS: [Run; 6] = [
+const RUNS: [Run; 7] = [
     // one report, and the report twice
     Run(
         3,
@@ -93,6 +100,15 @@ const RUNS: [Run; 6] = [
     ),
     // report of one unknown
     Run(0, &[Row(ONE_STATUS, &[], 0, 1, 0, 0)]),
+    // a run of lost packets, twice, and the packets after all
+    Run(
+        3,
+        &[
+            Row(ALL_LOST, &[], 3, 65_532, 0, 3),
+            Row(ALL_LOST, &[], 0, 65_532, 3, 3),
+            Row(ONE_REPORT, &[(0, 260), (1, 268), (2, 268)], 0, 0, 0, 0),
+        ],
+    ),
     // references that wrap, moved by a report that credits nothing
     Run(
         2,
@@ -155,7 +171,7 @@ fn run_agrees(rt: &impl Abort, alloc: Global, run: &Run) -> Result<(), Fail> {
     assert_eq!(rt; u64::from(history.outstanding()), packets.min(32_768));
     for row in rows {
         let Row(bytes, credits, missing, unknown, repeated, outstanding) = *row;
-        let report = read_report(alloc, bytes)?;
+        let report = read_compact(alloc, bytes)?;
         let judged = history.credit(alloc, &report)?;
         let received = judged.received.as_slice();
         assert_eq!(rt; received.len(), credits.len());
@@ -186,6 +202,8 @@ const KEPT_RUN: Run = Run(
     &[
         Row(ONE_STATUS, &[], 0, 1, 0, 32_768),
         Row(STATUS_OF_ONE, &[(1, 260)], 0, 0, 0, 32_767),
+        // 0 is not kept, and 1 is credited
+        Row(ALL_LOST, &[], 32_767, 32_767, 1, 32_767),
     ],
 );
 
@@ -196,7 +214,11 @@ fn kept_packets(rt: HostRuntime) -> Result<(), Fail> {
 
 const WRAP_RUN: Run = Run(
     65_537,
-    &[Row(ONE_STATUS, &[(65_536, 260)], 0, 0, 0, 32_767)],
+    &[
+        Row(ONE_STATUS, &[(65_536, 260)], 0, 0, 0, 32_767),
+        // 65,536 is credited, and 1 to 32,768 are not kept
+        Row(ALL_LOST, &[], 32_766, 32_768, 1, 32_767),
+    ],
 );
 
 #[test]

@@ -5,7 +5,7 @@ use Rattle.std.proofs.lemmas.Bool.{lt-ltb}
 use Rattle.std.proofs.lemmas.List.{drop_all}
 use Rattle.std.proofs.lemmas.List.FromFn.{length-map-range_with_len}
 use Rattle.std.proofs.lemmas.List.Folds.{list_any-append}
-use Rattle.gcc_units.specs.Walk.{flat_map-push}
+use Rattle.gcc_units.proofs.Walk.{flat_map-push}
 use Rattle.twcc_report.specs.declared.fault.ReportFault.{ReportFault}
 use Rattle.twcc_report.specs.declared.fault.ReportFault.TheVariants as faults
 use Rattle.twcc_report.specs.declared.fault.ReadReport.{ReadReport}

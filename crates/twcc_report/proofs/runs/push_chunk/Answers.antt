@@ -1,5 +1,5 @@
 use Rattle.std.proofs.Common.{◌++◌, ap, ◌∙◌, arith}
-use Rattle.gcc_units.specs.Walk.{flat_map-push}
+use Rattle.gcc_units.proofs.Walk.{flat_map-push}
 use Rattle.twcc_report.specs.Runs.{symbols_of_run, all_symbols_of}
 use Rattle.twcc_report.proofs.InRuns.{run_taken}
 use Rattle.twcc_report.proofs.runs.push_chunk.Goals as goal

@@ -34,7 +34,7 @@ use Rattle.send_core.specs.Reports.{outgoing_of, added_of, reported_of, events_b
 use Rattle.send_core.specs.Reply.{reply_in_time, reply}
 use Rattle.send_core.specs.Reply as replies
 use Rattle.send_core.specs.Settled.{credits_by}
-use Rattle.send_core.specs.Stands.{IsOutgoing, Laws, MayGrow, Steps}
+use Rattle.send_core.specs.Stands.{Laws, MayGrow, Steps}
 use Rattle.send_core.specs.Stands as core
 use Rattle.send_core.proofs.LawsKept.{Adds, adds}
 use Rattle.send_core.proofs.Pushes.{events-push, sent-push}

@@ -11,6 +11,7 @@ use rtp_wire::WireList;
 use send_core::{
     Answer, Call, Change, MOST_ACCEPTED, MOST_SENT, Parts, Reply, most_paced, wire_room,
 };
+use sent_history::FindingList;
 use std::alloc::Global;
 use std::marker::Model;
 
@@ -50,7 +51,9 @@ impl LiveSender {
     ghost use Rattle.send_core.specs.declared.call.Call.TheVariants as call;
     ghost use Rattle.send_core.specs.declared.call.Entry.{Entry};
     ghost use Rattle.send_core.specs.History.{entry, sent_by};
+    ghost use Rattle.gcc_units.specs.Listed.{bare};
     ghost use Rattle.send_core.specs.Reply.{reply};
+    ghost use Rattle.send_core.specs.Reports.{findings_by};
     ghost use Rattle.send_core.specs.Wires.{wires};
     ghost use Rattle.rtp_wire.specs.Wires.{bare_wires};
     ghost use Rattle.live_sender.specs.declared.live.LiveFault.TheVariants as fault;
@@ -152,6 +155,22 @@ impl LiveSender {
         self.packets.keep_only_if(index, is_accepted(&reply));
         self.sums.note(&reply);
         Ok(reply)
+    }
+
+    /// What a report tells of packets for the first time, each with its number, if it is handed in next: which are
+    /// credited and which are missing, in the order of its statuses. Nothing where the bytes are no report. It takes
+    /// memory for them.
+    pub fn findings(&self, alloc: Global, bytes: &Bytes) -> Result<FindingList, LiveFault>
+        ensures found { IfOk result (λ list. (history : List Entry) → StandsFor self.now history → list ≡ bare (findings_by history bytes.now.items)) }
+        ensures exhausted { IfErr result (λ e. (history : List Entry) → StandsFor self.now history → (e ≡ fault.Exhausted) ↔ (is_exhausted history ≡ true)) }
+    {
+        if self.is_exhausted() {
+            return Err(LiveFault::Exhausted);
+        }
+        let Ok(found) = self.parts.findings(alloc, bytes) else {
+            return Err(LiveFault::NoMemory);
+        };
+        Ok(found)
     }
 
     /// A report came. On `Err` nothing has changed.

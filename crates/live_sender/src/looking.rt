@@ -5,8 +5,11 @@ ghost use Rattle.pace_queues.specs.Waiting.{accepted_at_of};
 
 use crate::live::LiveSender;
 use crate::sums::SentTotals;
-use gcc_units::{GREATEST_MOMENT, GREATEST_RATE, MOST_STREAMS, Moment, NoMemory, Rate, ShareList};
+use gcc_units::{
+    Bytes, GREATEST_MOMENT, GREATEST_RATE, MOST_STREAMS, Moment, NoMemory, Rate, ShareList,
+};
 use pace_queues::Ticket;
+use probe_clusters::NextProbe;
 use send_core::{Rates, rates_of, shares_of};
 use std::alloc::Global;
 
@@ -58,13 +61,15 @@ impl LiveSender {
     ghost use Rattle.sent_history.specs.Balance.{expired};
     ghost use Rattle.pace_queues.specs.Waiting.{size_of};
     ghost use Rattle.pacer.specs.Force.{sending_time};
+    ghost use Rattle.probe_clusters.specs.Clusters.{next_probe};
+    ghost use Rattle.probe_clusters.specs.Deeds.{clusters};
     ghost use Rattle.send_core.specs.declared.call.Call.TheVariants as call;
     ghost use Rattle.send_core.specs.declared.call.Entry.{Entry};
     ghost use Rattle.send_core.specs.Estimates.{est, rates_of, target};
     ghost use Rattle.send_core.specs.History.{accepted, now, sent, sent_by, waiting};
     ghost use Rattle.send_core.specs.Levels.{rate};
     ghost use Rattle.send_core.specs.Reply.{reply};
-    ghost use Rattle.send_core.specs.Reports.{events};
+    ghost use Rattle.send_core.specs.Reports.{cluster_deeds, events};
     ghost use Rattle.send_core.specs.Settings.{settings, streams};
     ghost use Rattle.live_sender.specs.Live.{StandsFor};
     ghost use Rattle.live_sender.specs.Sums.{credited, missing, refused, totals_of};
@@ -120,6 +125,14 @@ impl LiveSender {
     {
         let parts = self.parts();
         parts.pacer.next_send(&parts.clusters)
+    }
+
+    /// The probe cluster that packets are sent for next: of those that wait the one with the least id. `None`
+    /// exactly where none waits.
+    pub fn next_probe(&self) -> Option<NextProbe>
+        ensures { (history : List Entry) → StandsFor self.now history → result ≡ next_probe (clusters (cluster_deeds history)) }
+    {
+        self.parts().clusters.next_probe()
     }
 
     /// The packets that wait.

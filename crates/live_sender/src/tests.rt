@@ -5,6 +5,7 @@ ghost use Rattle.std.specs.Prelude.{◌<◌, ◌^◌, length};
 use crate::{LiveFault, LiveSender};
 use gcc_units::{Bytes, Class, NoMemory};
 use send_core::{Answer, Reply};
+use sent_history::Finding;
 use std::alloc::Global;
 use std::test::Fail;
 
@@ -18,6 +19,11 @@ const VIDEO_AS_ONE: [u8; 20] = [
 
 const AUDIO: [u8; 20] = [
     0x90, 0x6f, 0, 1, 0, 0, 0, 0, 0, 0, 0, 0xbb, 0xbe, 0xde, 0, 1, 0x31, 0, 0, 0,
+];
+
+// A report that names packet 0 missing, and packet 1 received 260 quarter-milliseconds after 0.
+const ONE_MISSING: [u8; 24] = [
+    0x8f, 0xcd, 0, 5, 0, 0, 0, 1, 0, 0, 0, 2, 0, 0, 0, 2, 0, 0, 1, 0, 0x90, 0, 4, 0,
 ];
 
 // A report that names the packets 0 and 1 received.
@@ -47,6 +53,18 @@ fn credits(reply: Result<Reply, LiveFault>) -> Option<u32> {
     }
 }
 
+// The numbers that are missing, and those that are credited with their arrivals.
+fn told(findings: &[Finding]) -> (Option<u64>, Option<(u64, i64)>) {
+    let mut told = (None, None);
+    for finding in findings {
+        match finding {
+            Finding::Missing(number) => told.0 = Some(*number),
+            Finding::Credited(credit) => told.1 = Some((credit.number, credit.arrival)),
+        }
+    }
+    told
+}
+
 fn pace(alloc: Global, sender: &mut LiveSender, at: u64) -> Result<Answer, LiveFault> {
     sender.pace(alloc, at)
 }
@@ -61,6 +79,10 @@ fn packets_leave_stamped_and_are_credited(rt: HostRuntime) -> Result<(), Fail> {
     assert_eq!(rt; wires.len(), 2);
     assert_eq!(rt; wires.get(0), Some(AUDIO.as_slice()));
     assert_eq!(rt; wires.get(1), Some(VIDEO_AS_ONE.as_slice()));
+    let missing = sender.findings(alloc, &packet(alloc, &ONE_MISSING)?)?;
+    assert_eq!(rt; missing.len(), 2);
+    assert_eq!(rt; told(missing.as_slice()), (Some(0), Some((1, 260))));
+    assert_eq!(rt; sender.next_probe(), None);
     let report = packet(alloc, &REPORT)?;
     assert_eq!(rt; credits(sender.report(alloc, 3_000, &report)), Some(2));
     assert!(rt; !sender.is_exhausted());

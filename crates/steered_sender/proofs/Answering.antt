@@ -1,5 +1,5 @@
 -- What the reply to a change says of it.
-use Rattle.std.proofs.Common.{◌≡◌, ℕ, ◌≤◌, ◌==◌, Bool, true, false, cond, Option, None, Some, List, [], ◌∷◌, ◌++◌, count_by, nat_lt, refl, sym, ◌∙◌, ap, subst}
+use Rattle.std.proofs.Common.{◌≡◌, ℕ, ◌≤◌, ◌==◌, Bool, true, false, cond, Option, None, Some, List, [], ◌∷◌, ◌++◌, count_by, nat_lt, refl, sym, ap, subst}
 use Rattle.std.specs.Option.{ForSome}
 use Rattle.gcc_units.specs.Rates.{IsRate, IsBounds}
 use Rattle.gcc_units.specs.declared.limits.TheConstants.{GREATEST_MOMENT}
@@ -23,7 +23,7 @@ use Rattle.steered_sender.specs.declared.steering.Steering.{Steering}
 use Rattle.steered_sender.specs.declared.steering.TheConstants.{CONTROL_CALLER}
 use Rattle.steered_sender.specs.Replies.{is_configured}
 use Rattle.steered_sender.specs.Steps.{Steers, Changes, bounds_with}
-use Rattle.steered_sender.proofs.Pushing.{IsQuiet, quiet-refused, quiet-accepted, changed-moves}
+use Rattle.steered_sender.proofs.Pushing.{IsQuiet, quiet-refused, changed-moves}
 
 -- the reply to a change, by whether its moment is too large and by the check that fails
 abbrev pub told_by : List Entry → ℕ → Change → Bool → Option ℕ → Reply

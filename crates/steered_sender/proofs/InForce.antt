@@ -1,5 +1,5 @@
 -- The target after a change that the control asked for.
-use Rattle.std.proofs.Common.{◌≡◌, ℕ, min, true, List, [], ◌∷◌, ◌++◌, ◌∙◌, ap, arith}
+use Rattle.std.proofs.Common.{◌≡◌, ℕ, min, true, List, ◌∙◌, ap, arith}
 use Rattle.gcc_units.specs.Rates.{bounded}
 use Rattle.probe_clusters.specs.Deeds.{Deed}
 use Rattle.estimator.specs.Est.{Est, estimate}

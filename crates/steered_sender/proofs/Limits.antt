@@ -47,6 +47,13 @@ still-same h e s =
     ∙ (ap (λ es. limit (length (sent h)) (length (reports es)) (length (accepted (h ++ e ∷ [])))) judges
     ∙ ap (λ ps. limit (length (sent h)) (length (reports (events h))) (length ps)) accepts)
 
+-- what the control asks for is no event
+pub events-asked : (h : List Entry) (o : Option Wanted) → events (with_wanted h o) ≡ events h
+events-asked h None = ap events (append-nil h)
+events-asked h (Some w) =
+    let change : Call = call_kind.Configure (now h) (change_for w) in
+    events-push h (entry CONTROL_CALLER change (reply h change)) ∙ (ap (λ es. events h ++ es) (change-still h (now h) (change_for w)).judges ∙ append-nil (events h))
+
 -- with what the control asks for as many calls are left
 pub exhausted-asked : (h : List Entry) (o : Option Wanted) → is_exhausted (with_wanted h o) ≡ is_exhausted h
 exhausted-asked h None = ap is_exhausted (append-nil h)

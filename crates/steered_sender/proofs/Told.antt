@@ -1,5 +1,5 @@
 -- What the control is told of a report, by the steps that find it.
-use Rattle.std.proofs.Common.{◌≡◌, ℕ, ◌<◌, Bool, Option, List, ◌++◌, map, count_by, nat_lt, refl, sym, ◌∙◌, ap}
+use Rattle.std.proofs.Common.{◌≡◌, ℕ, Option, List, ◌++◌, map, count_by, nat_lt, ◌∙◌, ap}
 use Rattle.gcc_units.specs.declared.shared_types.Credit.{Credit}
 use Rattle.gcc_units.specs.declared.shared_types.Judged.{Judged}
 use Rattle.probe_clusters.specs.declared.cluster.Cluster.{Cluster}

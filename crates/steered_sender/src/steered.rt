@@ -9,6 +9,7 @@ use gcc_units::{Bytes, Class, NoMemory, Rate};
 use level_control::Answer as Step;
 use live_sender::{LiveFault, LiveSender};
 use send_core::{Answer, Change, Reply};
+use sent_history::FindingList;
 use std::alloc::Global;
 use std::marker::Model;
 
@@ -51,11 +52,13 @@ impl Model for SteeredSender {
 }
 
 impl SteeredSender {
+    ghost use Rattle.gcc_units.specs.Listed.{bare};
     ghost use Rattle.rtp_wire.specs.Wires.{bare_wires};
     ghost use Rattle.send_core.specs.declared.call.Call.TheVariants as call;
     ghost use Rattle.send_core.specs.declared.call.Entry.{Entry};
     ghost use Rattle.send_core.specs.History.{entry};
     ghost use Rattle.send_core.specs.Reply.{reply};
+    ghost use Rattle.send_core.specs.Reports.{findings_by};
     ghost use Rattle.send_core.specs.Settings.{is_some};
     ghost use Rattle.send_core.specs.Wires.{wires};
     ghost use Rattle.live_sender.specs.declared.live.LiveFault.TheVariants as fault;
@@ -95,6 +98,17 @@ impl SteeredSender {
             None => false,
             Some(steering) => steering.wanted.is_some(),
         }
+    }
+
+    /// What a report tells of packets for the first time, each with its number, if it is handed in next: which are
+    /// credited and which are missing, in the order of its statuses. Nothing where the bytes are no report. It takes
+    /// memory for them.
+    pub fn findings(&self, alloc: Global, bytes: &Bytes) -> Result<FindingList, LiveFault>
+        ensures found { IfOk result (λ list. (history : List Entry) → StandsFor self.now history → list ≡ bare (findings_by (served self.now history) bytes.now.items)) }
+        ensures exhausted { IfErr result (λ e. e ≡ fault.Exhausted → (history : List Entry) → StandsFor self.now history → is_exhausted history ≡ true) }
+    {
+        let found = self.sender.findings(alloc, bytes)?;
+        Ok(found)
     }
 
     /// What may leave now is sent. On `Err` nothing has changed but that what the control asked for may have been

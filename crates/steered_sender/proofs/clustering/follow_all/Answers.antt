@@ -1,12 +1,8 @@
-use Rattle.std.proofs.Common.{ℕ, ◌≡◌, suc, ◌+◌, ◌≤◌, ◌<◌, List, [], ◌∷◌, ◌++◌, length, get_or, take, drop, refl, sym, ap, ◌∙◌, subst, arith, append_assoc}
-use Rattle.std.proofs.Math.Seq.{drop-cons}
-use Rattle.std.proofs.lemmas.List.{take_more, take_all, append-nil}
-use Rattle.gcc_units.proofs.Walk.{flat_map-push}
+use Rattle.std.proofs.Common.{ℕ, ◌≡◌, ◌+◌, List, drop, sym, subst, arith}
+use Rattle.std.proofs.lemmas.List.{append-nil}
 use Rattle.gcc_units.specs.declared.limits.TheConstants.{MOST_PACKETS}
 use Rattle.probe_clusters.specs.declared.cluster.Cluster.{Cluster}
-use Rattle.probe_clusters.specs.Deeds.{Deed, StandsFor, ReachedBy}
-use Rattle.pacer.specs.declared.sent.Sent.{Sent}
-use Rattle.pacer.specs.Course.{probe_by, probes_of}
+use Rattle.probe_clusters.specs.Deeds.{StandsFor, ReachedBy}
 use Rattle.steered_sender.specs.Following.{AreForDue}
 use Rattle.steered_sender.proofs.Noting.{due-here, reached-all, follows-more, follows-all}
 use Rattle.steered_sender.proofs.clustering.follow_all.Goals as goal

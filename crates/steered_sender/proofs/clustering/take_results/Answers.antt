@@ -1,5 +1,4 @@
-use Rattle.std.proofs.Common.{◌≡◌, suc, All, subst, ◌+◌, ◌≤◌, ◌<◌, ◌∷◌, [], ◌++◌, List, length, ap, refl, ◌∙◌, sym, arith, append_assoc}
-use Rattle.std.proofs.lemmas.List.{append-nil}
+use Rattle.std.proofs.Common.{◌≡◌, suc, All, subst, ◌+◌, ◌∷◌, [], ◌++◌, List, length, ap, refl, ◌∙◌, sym, arith, append_assoc}
 use Rattle.std.proofs.lemmas.List.Elements.{All-nil}
 use Rattle.level_control.specs.Probing.{IsProbed}
 use Rattle.level_control.specs.declared.state.Probed.{Probed}

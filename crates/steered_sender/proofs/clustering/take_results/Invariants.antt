@@ -1,4 +1,4 @@
-use Rattle.std.proofs.Common.{ℕ, ◌≡◌, ◌+◌, ◌≤◌, ◌++◌, List, All, length}
+use Rattle.std.proofs.Common.{◌≡◌, ◌+◌, ◌≤◌, ◌++◌, List, All, length}
 use Rattle.level_control.specs.Probing.{IsProbed}
 use Rattle.probe_clusters.specs.Clusters.{outcomes}
 use Rattle.probe_clusters.specs.Deeds.{Deed, StandsFor, takings}

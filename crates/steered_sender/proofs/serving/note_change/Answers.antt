@@ -1,6 +1,5 @@
-use Rattle.std.proofs.Common.{◌≡◌, ℕ, ◌≤◌, ◌==◌, true, false, Option, None, Some, List, [], ◌∷◌, ◌++◌, All, length, refl, sym, ◌∙◌, ap, subst}
+use Rattle.std.proofs.Common.{true, false, None, refl, sym, ◌∙◌}
 use Rattle.send_core.specs.declared.call.Call.TheVariants as call
-use Rattle.steered_sender.specs.declared.steering.Steering.{Steering}
 use Rattle.steered_sender.specs.Replies.{is_configured}
 use Rattle.steered_sender.proofs.Answering.{may-change, moves-when, quiet-when}
 use Rattle.steered_sender.proofs.Pushing.{quiet-moves}

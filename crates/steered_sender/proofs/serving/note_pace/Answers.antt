@@ -1,4 +1,4 @@
-use Rattle.std.proofs.Common.{◌≡◌, ℕ, ◌≤◌, ◌==◌, true, false, Option, None, Some, List, [], ◌∷◌, ◌++◌, All, length, refl, sym, ◌∙◌, ap, subst}
+use Rattle.std.proofs.Common.{List, [], ◌∷◌, ◌++◌, All, length, refl, sym, subst}
 use Rattle.probe_clusters.specs.Deeds as probes
 use Rattle.pacer.specs.declared.sent.Sent.{Sent}
 use Rattle.pacer.specs.Course.{HasRoom, probes_of, IsSmallRecord}

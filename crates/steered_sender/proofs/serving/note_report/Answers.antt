@@ -1,7 +1,6 @@
-use Rattle.std.proofs.Common.{◌≡◌, ℕ, ◌≤◌, ◌==◌, true, false, Option, None, Some, List, [], ◌∷◌, ◌++◌, All, length, refl, sym, ◌∙◌, ap, subst}
+use Rattle.std.proofs.Common.{◌≡◌, Some, [], ◌∷◌, ◌++◌, refl, sym, ◌∙◌, ap, subst}
 use Rattle.send_core.specs.declared.call.Call.TheVariants as call
 use Rattle.send_core.specs.declared.call.Reply.{Reply}
-use Rattle.send_core.specs.declared.call.Entry.{Entry}
 use Rattle.send_core.specs.History.{entry}
 use Rattle.live_sender.specs.Live as live
 use Rattle.steered_sender.specs.Steered.{answered}

@@ -1,4 +1,4 @@
-use Rattle.std.proofs.Common.{◌≡◌, ℕ, ◌≤◌, ◌==◌, true, false, Option, None, Some, List, [], ◌∷◌, ◌++◌, All, length, refl, sym, ◌∙◌, ap, subst}
+use Rattle.std.proofs.Common.{List, subst}
 use Rattle.send_core.specs.declared.call.Entry.{Entry}
 use Rattle.live_sender.specs.Live as live
 use Rattle.steered_sender.specs.declared.steering.TheConstants.{CONTROL_CALLER}

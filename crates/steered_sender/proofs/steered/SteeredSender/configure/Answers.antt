@@ -1,14 +1,13 @@
-use Rattle.std.proofs.Common.{◌≡◌, ℕ, ◌==◌, false, inl, inr, Option, Some, None, Result, Ok, Err, List, [], ◌∷◌, ◌++◌, refl, sym, ◌∙◌, ap, subst}
+use Rattle.std.proofs.Common.{◌≡◌, List, [], ◌∷◌, ◌++◌, refl, sym, ◌∙◌, ap, subst}
 use Rattle.send_core.specs.declared.call.Call.TheVariants as call
 use Rattle.send_core.specs.declared.call.Entry.{Entry}
 use Rattle.send_core.specs.History.{entry}
 use Rattle.live_sender.specs.Live.{Live}
 use Rattle.live_sender.specs.Live as live
-use Rattle.steered_sender.specs.declared.steering.Steering.{Steering}
 use Rattle.steered_sender.specs.Steered.{with_wanted}
-use Rattle.steered_sender.specs.Standing.{Kept, StandsFor, SteersIf, IsBehind, served, wanted_of}
+use Rattle.steered_sender.specs.Standing.{Kept, StandsFor, SteersIf, served, wanted_of}
 use Rattle.steered_sender.proofs.Limits.{exhausted-asked}
-use Rattle.steered_sender.proofs.Results.{by-result, at-ok, at-err, on-ok, on-err, both-ok, ok-so, if-err-so}
+use Rattle.steered_sender.proofs.Results.{by-result, at-ok, on-err, both-ok, ok-so, if-err-so}
 use Rattle.steered_sender.proofs.steered.SteeredSender.configure.Goals as goal
 
 pub configure_if-requires : goal.configure_if-requires

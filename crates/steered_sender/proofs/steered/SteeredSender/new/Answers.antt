@@ -1,4 +1,4 @@
-use Rattle.std.proofs.Common.{List, []}
+use Rattle.std.proofs.Common.{[]}
 use Rattle.steered_sender.specs.Steered.{with_wanted}
 use Rattle.steered_sender.specs.Standing.{wanted_of}
 use Rattle.steered_sender.proofs.steered.SteeredSender.new.Goals as goal

@@ -1,4 +1,4 @@
-use Rattle.std.proofs.Common.{◌≡◌, ℕ, ◌==◌, false, inl, inr, Option, Some, None, Result, Ok, Err, List, [], ◌∷◌, ◌++◌, refl, sym, ◌∙◌, ap, subst}
+use Rattle.std.proofs.Common.{◌≡◌, Option, List, [], ◌∷◌, ◌++◌, sym, ◌∙◌, ap, subst}
 use Rattle.send_core.specs.declared.call.Call.TheVariants as call
 use Rattle.send_core.specs.declared.call.Entry.{Entry}
 use Rattle.rtp_wire.specs.Wires.{bare_wires}
@@ -9,9 +9,9 @@ use Rattle.live_sender.specs.Live.{Live}
 use Rattle.live_sender.specs.Live as live
 use Rattle.steered_sender.specs.declared.steering.Steering.{Steering}
 use Rattle.steered_sender.specs.Steered.{with_wanted}
-use Rattle.steered_sender.specs.Standing.{Kept, StandsFor, SteersIf, IsBehind, served, wanted_of}
+use Rattle.steered_sender.specs.Standing.{Kept, StandsFor, SteersIf, served, wanted_of}
 use Rattle.steered_sender.proofs.Limits.{exhausted-asked}
-use Rattle.steered_sender.proofs.Results.{by-result, at-ok, at-err, on-ok, on-err, both-ok, ok-so, if-ok-so, if-err-so}
+use Rattle.steered_sender.proofs.Results.{by-result, at-ok, on-err, both-ok, ok-so, if-ok-so, if-err-so}
 use Rattle.steered_sender.proofs.steered.SteeredSender.pace.Goals as goal
 
 pub pace_if-requires-clause-stands : goal.pace_if-requires-clause-stands

@@ -1,4 +1,4 @@
-use Rattle.std.proofs.Common.{◌≡◌, ℕ, ◌==◌, false, inl, inr, Option, Some, None, Result, Ok, Err, List, [], ◌∷◌, ◌++◌, refl, sym, ◌∙◌, ap, subst}
+use Rattle.std.proofs.Common.{◌≡◌, inl, inr, Option, List, [], ◌∷◌, ◌++◌, sym, ◌∙◌, ap, subst}
 use Rattle.send_core.specs.declared.call.Call.TheVariants as call
 use Rattle.send_core.specs.declared.call.Entry.{Entry}
 use Rattle.send_core.specs.History.{entry}
@@ -9,7 +9,7 @@ use Rattle.steered_sender.specs.Steered.{with_wanted}
 use Rattle.steered_sender.specs.Standing.{Kept, StandsFor, SteersIf, IsBehind, served, wanted_of}
 use Rattle.steered_sender.proofs.Behind.{with-asked}
 use Rattle.steered_sender.proofs.Limits.{exhausted-asked}
-use Rattle.steered_sender.proofs.Results.{by-result, at-ok, at-err, on-ok, on-err, both-ok}
+use Rattle.steered_sender.proofs.Results.{by-result, on-ok, on-err}
 use Rattle.steered_sender.proofs.steered.SteeredSender.report.Goals as goal
 
 pub report_if-requires-clause-stands : goal.report_if-requires-clause-stands

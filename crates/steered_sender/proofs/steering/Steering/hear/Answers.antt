@@ -1,15 +1,14 @@
-use Rattle.std.proofs.Common.{◌≡◌, ℕ, ◌≤◌, Bool, List, ◌++◌, map, nat_lt, refl, sym, ◌∙◌, ap, subst}
+use Rattle.std.proofs.Common.{◌≡◌, ℕ, ◌≤◌, Bool, List, ◌++◌, map, nat_lt, refl, ◌∙◌, ap, subst}
 use Rattle.std.specs.Option.{ForSome}
 use Rattle.gcc_units.specs.declared.shared_types.Credit.{Credit}
 use Rattle.probe_clusters.specs.declared.cluster.Cluster.{Cluster}
-use Rattle.probe_clusters.specs.declared.probes.Outcome.{Outcome}
 use Rattle.probe_clusters.specs.Clusters.{outcomes}
 use Rattle.probe_clusters.specs.Deeds.{Deed, Note, StandsFor, rates, clusters, takings}
 use Rattle.estimator.specs.Report.{round_trip}
 use Rattle.level_control.specs.declared.state.Report.{Report}
 use Rattle.level_control.specs.declared.state.Probed.{Probed}
 use Rattle.level_control.specs.Steps.{after, answer}
-use Rattle.steered_sender.specs.Steered.{told_of, results, is_any_waiting}
+use Rattle.steered_sender.specs.Steered.{told_of, results}
 use Rattle.steered_sender.proofs.Told.{IsTold, is-told}
 use Rattle.steered_sender.proofs.steering.Steering.hear.Goals as goal
 

@@ -11,7 +11,7 @@
  *  - no pointer is null, each points to as many bytes as its size says, and no two of a call overlap;
  *  - a handle begins as LULQ_SENDER_INIT, is copied nowhere while it is in use, and only these calls
  *    write to it;
- *  - one call at a time for a handle, looks (rates, queue, stats, next_time, share) among them: a program
+ *  - one call at a time for a handle, looks (rates, queue, next_probe, stats, next_time, share) among them: a program
  *    with several threads has its own lock round it. Calls on different handles need none. No call is made from a signal handler;
  *  - malloc, realloc and free are those of one allocator.
  */
@@ -29,7 +29,7 @@ extern "C" {
 #endif
 
 /* What this header was written for; `lulq_abi()` tells what the linked library is. */
-#define LULQ_ABI 3u
+#define LULQ_ABI 4u
 
 /* A handle. Its fields are the library's. */
 typedef struct lulq_sender {
@@ -145,6 +145,22 @@ typedef struct lulq_queue {
   uint32_t packets;    /* how many */
 } lulq_queue;
 
+/* The probe cluster that packets are sent for next. */
+typedef struct lulq_probe {
+  uint64_t rate;    /* bit/s: its planned rate */
+  uint32_t cluster; /* its place among the clusters that were planned, as in lulq_info */
+} lulq_probe;
+
+/* What a feedback told of a packet for the first time. */
+typedef struct lulq_result {
+  uint64_t number;   /* its transport-wide number, as in lulq_info */
+  uint64_t sent_at;  /* microseconds; LULQ_NO_TIME for one that is missing */
+  int64_t arrival;   /* quarter-milliseconds of the receiver's clock; 0 for one that is missing */
+  uint32_t size;     /* bytes; 0 for one that is missing */
+  uint32_t cluster;  /* of a probe; else, and for one that is missing, LULQ_NONE */
+  uint32_t received; /* 1 where it was received; 0 where it is missing: a later report may credit it all the same */
+} lulq_result;
+
 /* How many packets, and their bytes. */
 typedef struct lulq_total {
   uint64_t packets;
@@ -223,6 +239,11 @@ int32_t lulq_sender_next_time(lulq_sender *sender, uint64_t *at);
 int32_t lulq_sender_feedback(lulq_sender *sender, uint64_t now, const uint8_t *rtcp,
                              size_t rtcp_size, uint32_t *place);
 
+/* What the last feedback told of the next packet: LULQ_OK, or LULQ_NOTHING where all was told. Each packet that it
+ * credited or, for the first time, told missing is handed out once, in the order of its reports and their statuses.
+ * What is left when the next feedback is served goes. */
+int32_t lulq_sender_next_result(lulq_sender *sender, lulq_result *result);
+
 /* Changes the settings that `settings->named` names, takes out the streams of the ids in `removed`,
  * and sets the given streams, each in place of one with the same id. Where a check fails, nothing of
  * it is changed. Pointers are not null, also where there are none. */
@@ -235,6 +256,10 @@ int32_t lulq_sender_rates(lulq_sender *sender, lulq_rates *rates);
 
 /* What waits to be sent. Packets that a pace sent and no pop fetched yet are not among it. */
 int32_t lulq_sender_queue(lulq_sender *sender, lulq_queue *queue);
+
+/* The probe cluster that packets are sent for next, whether one may leave now or not. LULQ_NOTHING where none
+ * waits. */
+int32_t lulq_sender_next_probe(lulq_sender *sender, lulq_probe *probe);
 
 /* How many packets and reports there were. */
 int32_t lulq_sender_stats(lulq_sender *sender, lulq_stats *stats);

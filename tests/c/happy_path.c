@@ -50,6 +50,10 @@ int main(void) {
   lulq_rates rates;
   lulq_stats stats;
   lulq_queue queue;
+  lulq_probe probe;
+  lulq_result result;
+  lulq_settings settings = {0};
+  lulq_stream none = {0};
   uint64_t next = 0;
   WANT(lulq_abi() == LULQ_ABI);
   WANT(lulq_sender_new(&sender, LULQ_CONTROL_GRADIENT, 0) == LULQ_OK);
@@ -66,6 +70,11 @@ int main(void) {
   WANT(lulq_sender_next_time(&sender, &next) == LULQ_NOTHING);
   WANT(lulq_sender_queue(&sender, &queue) == LULQ_OK && queue.packets == 0 && queue.oldest == LULQ_NO_TIME && queue.drain_time == 0);
   WANT(lulq_sender_feedback(&sender, 3000, report, sizeof report, &place) == LULQ_OK);
+  /* the reference is 1 of 64 ms, and each delta 1 ms */
+  WANT(lulq_sender_next_result(&sender, &result) == LULQ_OK && result.number == 0 && result.received == 1 && result.arrival == 260);
+  WANT(result.sent_at == 2000 && result.size == 20 && result.cluster == LULQ_NONE);
+  WANT(lulq_sender_next_result(&sender, &result) == LULQ_OK && result.number == 1 && result.received == 1 && result.arrival == 264);
+  WANT(lulq_sender_next_result(&sender, &result) == LULQ_NOTHING);
   WANT(lulq_sender_stats(&sender, &stats) == LULQ_OK);
   WANT(stats.sent == 2 && stats.accepted == 2 && stats.waiting == 0 && stats.outstanding == 0 && stats.judged == 1);
   WANT(stats.audio.packets == 1 && stats.audio.bytes == 20 && stats.media.packets == 1 && stats.media.bytes == 20 && stats.probes.packets == 0 && stats.padding.packets == 0);
@@ -75,7 +84,13 @@ int main(void) {
   WANT(lulq_rtp_place(video, sizeof video, 3, &place) == LULQ_OK && place == 17);
   WANT(lulq_rtp_stamp(room, 20, 3, 0x10203) == LULQ_OK && room[17] == 2 && room[18] == 3);
   WANT(lulq_rtp_place(video, sizeof video, 15, &place) == LULQ_E_SETTINGS - 4);
+  WANT(lulq_sender_next_probe(&sender, &probe) == LULQ_NOTHING);
+  settings.named = LULQ_SET_PROBE;
+  settings.probe = 2000000;
+  WANT(lulq_sender_configure(&sender, 4000, &settings, &none, 0, &index, 0) == LULQ_OK);
+  WANT(lulq_sender_next_probe(&sender, &probe) == LULQ_OK && probe.rate == 2000000 && probe.cluster == 0);
   lulq_sender_free(&sender);
+  WANT(lulq_sender_next_probe(&sender, &probe) == LULQ_E_NOT_OPEN);
   WANT(lulq_sender_rates(&sender, &rates) == LULQ_E_NOT_OPEN);
   return level(video, sizeof video);
 }

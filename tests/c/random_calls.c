@@ -172,6 +172,22 @@ static void count(const lulq_info *info, size_t size) {
   own.bytes -= size;
 }
 
+/* each packet that the last feedback told of, once: those received with their arrivals, and how many are missing */
+static void tell_results(int any) {
+  lulq_result r = {0};
+  uint64_t missing = 0, count = 0;
+  int32_t c;
+  if (any) fputc('R', told);
+  for (; (c = lulq_sender_next_result(&sender, &r)) == LULQ_OK; count++) {
+    if (r.number >= sent()) fail("a result of a packet that was not sent");
+    if (r.received && any) fprintf(told, " %" PRIu64 "@%" PRId64, r.number, r.arrival);
+    if (r.received ? r.sent_at > moment || r.size == 0 : r.sent_at != LULQ_NO_TIME || r.size || r.cluster != LULQ_NONE) fail("a result");
+    missing += !r.received;
+  }
+  if (c != LULQ_NOTHING || (!any && count)) fail("the results");
+  if (any) fprintf(told, " lost %" PRIu64 "\n", missing);
+}
+
 static int differ(lulq_total a, lulq_total b) { return a.packets != b.packets || a.bytes != b.bytes; }
 
 /* what the looks tell, against the program's own count; the kinds and the queue once all is fetched */
@@ -225,6 +241,9 @@ static int32_t pop(uint64_t at) {
   const int32_t tells = lulq_sender_next_time(&sender, &next);
   if (tells == LULQ_OK ? next < moment || next > MOST_MOMENT : tells != LULQ_NOTHING || next != 4242) fail("a next moment");
   if (!serves && (tells != LULQ_OK || next != moment)) fail("kept packets are for now");
+  lulq_probe probe = {7, 7};
+  const int32_t waits = lulq_sender_next_probe(&sender, &probe);
+  if (waits == LULQ_OK ? probe.rate < 1000 : waits != LULQ_NOTHING || probe.rate != 7) fail("a next probe");
   memset(room, 0xa5, sizeof room);
   const int32_t c = lulq_sender_pop(&sender, at, room, room_size, &size, &info);
   if (serves && at > MOST_MOMENT) {
@@ -242,6 +261,7 @@ static int32_t pop(uint64_t at) {
     uint32_t place;
     if (size > room_size || info.number != fetched++) fail("a packet");
     if (lulq_rtp_place(room, size, id, &place) != LULQ_OK || (room[place] << 8 | room[place + 1]) != (int)(info.number & 0xffff)) fail("the number in a packet");
+    if (serves && waits == LULQ_OK && info.kind == LULQ_KIND_PROBE && info.cluster != probe.cluster) fail("the next probe is of another cluster");
     count(&info, size);
     for (size_t k = size; k < sizeof room; k++) if (room[k] != 0xa5) fail("bytes behind the packet were written");
     if (pace.count == MOST_PACE) fail("a pace of too many");
@@ -347,6 +367,7 @@ static void feedback(void) {
   const int32_t c = lulq_sender_feedback(&sender, at, rtcp, n, &place);
   if (end < n) {
     if (c != LULQ_E_COMPOUND || place != end) fail("a compound packet that is none");
+    tell_results(0);
     return;
   }
   if (place != 4242) fail("a place was written");
@@ -354,8 +375,10 @@ static void feedback(void) {
   if (reports) pass(at);
   if (reports == 0) {
     if (c != LULQ_OK) fail("no reports");
+    tell_results(0);
     return;
   }
+  tell_results(1);
   fprintf(told, "F %u %d %" PRIu64, reports, (int)c, moment);
   tell_rates();
 }
@@ -432,6 +455,8 @@ static void closed(void) {
   lulq_queue queue = {1, 2, 3, 4};
   uint64_t next = 7;
   lulq_share share = {1, 2};
+  lulq_probe probe = {1, 2};
+  lulq_result result = {1, 2, 3, 4, 5, 6};
   lulq_settings settings;
   lulq_stream stream;
   memset(&settings, 0, sizeof settings);
@@ -451,9 +476,10 @@ static void closed(void) {
       lulq_sender_feedback(&other, now, bytes, sizeof bytes, &a) != LULQ_E_NOT_OPEN || lulq_sender_rates(&other, &rates) != LULQ_E_NOT_OPEN ||
       lulq_sender_stats(&other, &stats) != LULQ_E_NOT_OPEN || lulq_sender_share(&other, 0, &share) != LULQ_E_NOT_OPEN ||
       lulq_sender_configure(&other, now, &settings, &stream, 0, &a, 0) != LULQ_E_NOT_OPEN ||
-      lulq_sender_next_time(&other, &next) != LULQ_E_NOT_OPEN || lulq_sender_queue(&other, &queue) != LULQ_E_NOT_OPEN)
+      lulq_sender_next_time(&other, &next) != LULQ_E_NOT_OPEN || lulq_sender_queue(&other, &queue) != LULQ_E_NOT_OPEN ||
+      lulq_sender_next_probe(&other, &probe) != LULQ_E_NOT_OPEN || lulq_sender_next_result(&other, &result) != LULQ_E_NOT_OPEN)
     fail("a closed handle was followed");
-  if (a != 5 || b != 6 || info.number != 1 || rates.delay != 1 || memcmp(&stats, &before, sizeof stats) || share.rate != 1 || next != 7 || queue.bytes != 1) fail("a closed handle wrote");
+  if (a != 5 || b != 6 || info.number != 1 || rates.delay != 1 || memcmp(&stats, &before, sizeof stats) || share.rate != 1 || next != 7 || queue.bytes != 1 || probe.rate != 1 || result.number != 1) fail("a closed handle wrote");
 }
 
 int main(int argc, char **argv) {

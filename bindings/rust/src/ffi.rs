@@ -57,6 +57,17 @@ pub struct Share {
     pub id: u32,
 }
 
+#[repr(C)]
+#[derive(Default)]
+pub struct PacketResult {
+    pub number: u64,
+    pub sent_at: u64,
+    pub arrival: i64,
+    pub size: u32,
+    pub cluster: u32,
+    pub received: u32,
+}
+
 extern "C" {
     pub fn lulq_abi() -> u32;
     pub fn lulq_sender_new(sender: *mut Handle, control: u32, start: u64) -> i32;
@@ -68,6 +79,8 @@ extern "C" {
     pub fn lulq_sender_rates(sender: *mut Handle, rates: *mut crate::Rates) -> i32;
     pub fn lulq_sender_next_time(sender: *mut Handle, at: *mut u64) -> i32;
     pub fn lulq_sender_queue(sender: *mut Handle, queue: *mut Queue) -> i32;
+    pub fn lulq_sender_next_result(sender: *mut Handle, result: *mut PacketResult) -> i32;
+    pub fn lulq_sender_next_probe(sender: *mut Handle, probe: *mut crate::Probe) -> i32;
     pub fn lulq_sender_stats(sender: *mut Handle, stats: *mut crate::Stats) -> i32;
     pub fn lulq_sender_share(sender: *mut Handle, place: u32, share: *mut Share) -> i32;
     pub fn lulq_rtp_place(packet: *const u8, packet_size: usize, id: u32, place: *mut u32) -> i32;

@@ -9,7 +9,7 @@ mod ffi;
 
 pub use error::Error;
 
-const ABI: u32 = 3;
+const ABI: u32 = 4;
 const NONE: u32 = 0xffff_ffff;
 const NO_TIME: u64 = u64::MAX;
 
@@ -91,6 +91,38 @@ pub struct Queue {
     /// The time in which the rate in force sends them all, in microseconds and rounded up; none where
     /// that rate is 0.
     pub drain_time: Option<u64>,
+}
+
+/// The probe cluster that packets are sent for next.
+#[repr(C)]
+#[derive(Clone, Copy, PartialEq, Eq, Debug, Default)]
+pub struct Probe {
+    /// Its planned rate, in bit/s.
+    pub rate: u64,
+    /// Its place among the clusters that were planned.
+    pub cluster: u32,
+}
+
+/// What a feedback told of a packet for the first time.
+#[derive(Clone, Copy, PartialEq, Eq, Debug)]
+pub struct PacketResult {
+    /// Its transport-wide number.
+    pub number: u64,
+    /// None where it is missing; a later report may credit it all the same.
+    pub received: Option<Arrived>,
+}
+
+/// A packet that arrived.
+#[derive(Clone, Copy, PartialEq, Eq, Debug)]
+pub struct Arrived {
+    /// In microseconds.
+    pub sent_at: u64,
+    /// In quarter-milliseconds of the receiver's clock.
+    pub arrival: i64,
+    /// In bytes.
+    pub size: u32,
+    /// The cluster of a probe.
+    pub cluster: Option<u32>,
 }
 
 /// How many packets, and their bytes.
@@ -224,6 +256,18 @@ impl Sender {
         Error::of(code, place)
     }
 
+    /// What the last feedback told of the next packet, if any is left: each that it credited or, for the first time,
+    /// told missing, once.
+    pub fn next_result(&mut self) -> Option<PacketResult> {
+        let mut told = ffi::PacketResult::default();
+        let code = unsafe { ffi::lulq_sender_next_result(&mut self.handle, &mut told) };
+        if code != 0 {
+            return None;
+        }
+        let received = Arrived { sent_at: told.sent_at, arrival: told.arrival, size: told.size, cluster: Some(told.cluster).filter(|cluster| *cluster != NONE) };
+        Some(PacketResult { number: told.number, received: Some(received).filter(|_| told.received == 1) })
+    }
+
     /// Changes settings and streams.
     pub fn configure(&mut self, now: u64, change: &Change) -> Result<(), Error> {
         let settings = settings_of(change);
@@ -251,6 +295,13 @@ impl Sender {
             oldest: time_of(queue.oldest),
             drain_time: time_of(queue.drain_time),
         }
+    }
+
+    /// The probe cluster that packets are sent for next, if one waits.
+    pub fn next_probe(&mut self) -> Option<Probe> {
+        let mut probe = Probe::default();
+        let code = unsafe { ffi::lulq_sender_next_probe(&mut self.handle, &mut probe) };
+        Some(probe).filter(|_| code == 0)
     }
 
     /// How many packets and reports there were.

@@ -1,6 +1,6 @@
 //! One happy path, and each kind of refusal.
 
-use lulqoter::{rtp_place, rtp_stamp, Change, Class, Control, Error, Kind, Queue, Sender, Stream, Total};
+use lulqoter::{rtp_place, rtp_stamp, Arrived, Change, Class, Control, Error, Kind, PacketResult, Probe, Queue, Sender, Stream, Total};
 
 const VIDEO: [u8; 20] = [
     0x90, 0x60, 0, 1, 0, 0, 0, 0, 0, 0, 0, 0xaa, 0xbe, 0xde, 0, 1, 0x31, 0, 0, 0,
@@ -31,6 +31,11 @@ fn packets_leave_stamped_and_are_credited() {
     assert_eq!(sender.next_time(), None);
     assert_eq!(sender.queue(), Queue { drain_time: Some(0), ..Queue::default() });
     assert_eq!(sender.feedback(3_000, &REPORT), Ok(()));
+    // the reference is 1 of 64 ms, and each delta 1 ms
+    let arrived = |arrival| Some(Arrived { sent_at: 2_000, arrival, size: 20, cluster: None });
+    assert_eq!(sender.next_result(), Some(PacketResult { number: 0, received: arrived(260) }));
+    assert_eq!(sender.next_result(), Some(PacketResult { number: 1, received: arrived(264) }));
+    assert_eq!(sender.next_result(), None);
     let stats = sender.stats();
     assert_eq!((stats.sent, stats.accepted, stats.outstanding, stats.judged), (2, 2, 0, 1));
     let one = Total { packets: 1, bytes: 20 };
@@ -52,6 +57,14 @@ fn refusals_have_their_causes() {
     assert_eq!(sender.configure(0, &change), Ok(()));
     assert_eq!(sender.shares(), Ok(vec![(4, 200_000)]));
     assert_eq!(sender.rates().target, 500_000);
+}
+
+#[test]
+fn a_planned_cluster_is_the_next_probe() {
+    let mut sender = Sender::with_control(Control::Gradient).unwrap();
+    assert_eq!(sender.next_probe(), None);
+    assert_eq!(sender.configure(0, &Change { probe: Some(2_000_000), ..Change::default() }), Ok(()));
+    assert_eq!(sender.next_probe(), Some(Probe { rate: 2_000_000, cluster: 0 }));
 }
 
 #[test]

@@ -1,4 +1,5 @@
 pub mod Kept
+pub mod Findings
 pub mod Hearing
 pub mod Causes
 pub mod NextTimes

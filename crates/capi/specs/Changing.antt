@@ -61,5 +61,6 @@ pub record Configures (before after : Serving) (at : ℕ) (given : Settings) (st
   pub reply : is_served outcome ≡ true → (history : List Entry) → StandsFor before.steered history → outcome ≡ answer_of (reply (served before.steered history) (asked at given streams removed))
   pub stands : is_served outcome ≡ true → Serves before.steered after.steered (asked at given streams removed)
   pub kept : after.kept ≡ before.kept
+  pub findings : after.findings ≡ before.findings
   pub unserved : is_served outcome ≡ false → Stays before after
   pub exhausted : IfErr outcome (λ e. IfExhausted e ((history : List Entry) → StandsFor before.steered history → is_exhausted history ≡ true))

@@ -6,6 +6,9 @@ use Rattle.gcc_units.specs.declared.shared_types.Share.{Share}
 use Rattle.allocator.specs.Shares.{shares}
 use Rattle.pace_queues.specs.Waiting.{size_of, accepted_at_of}
 use Rattle.pacer.specs.Force.{sending_time}
+use Rattle.probe_clusters.specs.declared.probes.NextProbe.{NextProbe}
+use Rattle.probe_clusters.specs.Clusters.{next_probe}
+use Rattle.probe_clusters.specs.Deeds.{clusters}
 use Rattle.sent_history.specs.Balance.{expired}
 use Rattle.sent_history.specs.Crediting.{outstanding}
 use Rattle.sent_history.specs.Events.{reports}
@@ -14,7 +17,7 @@ use Rattle.send_core.specs.declared.call.Entry.{Entry}
 use Rattle.send_core.specs.Estimates.{est, rates_of, target}
 use Rattle.send_core.specs.History.{accepted, now, sent, waiting}
 use Rattle.send_core.specs.Levels.{rate}
-use Rattle.send_core.specs.Reports.{events}
+use Rattle.send_core.specs.Reports.{cluster_deeds, events}
 use Rattle.send_core.specs.Settings.{settings, streams}
 use Rattle.live_sender.specs.declared.looking.Counters.{Counters}
 use Rattle.live_sender.specs.declared.looking.Queue.{Queue}
@@ -26,6 +29,7 @@ use Rattle.capi.specs.declared.looking.QueueTold.{QueueTold}
 use Rattle.capi.specs.declared.looking.TotalTold.{TotalTold}
 use Rattle.capi.specs.declared.looking.StatsTold.{StatsTold}
 use Rattle.capi.specs.declared.looking.ShareTold.{ShareTold}
+use Rattle.capi.specs.declared.looking.ProbeTold.{ProbeTold}
 use Rattle.capi.specs.declared.looking.TheConstants.{NO_TIME}
 use Rattle.capi.specs.Serving.{Serving, filled}
 
@@ -97,6 +101,13 @@ stats_after history = record {
 -- the share of this place, in rising order of the streams' ids
 abbrev pub share_after : List Entry → ℕ → Option ShareTold
 share_after history k = option_map share_told (slice_get (shares (target history) (streams history)) k)
+
+abbrev pub probe_told : NextProbe → ProbeTold
+probe_told p = record { rate = p.rate; cluster = p.id }
+
+-- the probe cluster that packets are sent for next
+abbrev pub probe_after : List Entry → Option ProbeTold
+probe_after history = option_map probe_told (next_probe (clusters (cluster_deeds history)))
 
 -- When to pop next, from the moment of the last call on: at that moment a pop looks at a packet, and before it at none.
 -- Where no moment is told, a pop at none of them does. While a change that the control asked for was not served yet

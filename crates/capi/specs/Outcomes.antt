@@ -1,9 +1,11 @@
 -- What a call did: the sender before and after it, and what it told.
-use Rattle.std.specs.Prelude.{◌≡◌, ◌<◌, ℕ, ℤ, pos, true, false, Option, Some, None, Result, Ok, Err, IfOk, IfErr, IfSome, OnOk, OnErr, List, length}
+use Rattle.std.specs.Prelude.{◌≡◌, ◌<◌, ℕ, ℤ, pos, true, false, Option, Some, None, Result, Ok, Err, IfOk, IfErr, IfSome, OnOk, OnErr, List, [], ◌∷◌, ◌++◌, length}
 use Rattle.gcc_units.specs.Listed.{bare}
 use Rattle.pacer.specs.declared.sent.Kind.{Kind}
 use Rattle.pacer.specs.declared.sent.Kind.TheVariants.{Audio, Media, Probe, Padding}
 use Rattle.pacer.specs.declared.sent.Sent.{Sent}
+use Rattle.sent_history.specs.declared.finding.Finding.{Finding}
+use Rattle.sent_history.specs.declared.finding.Finding.TheVariants as finding
 use Rattle.send_core.specs.declared.call.Call.TheVariants.{Enqueue}
 use Rattle.send_core.specs.declared.call.Entry.{Entry}
 use Rattle.send_core.specs.Reply.{reply}
@@ -19,6 +21,9 @@ use Rattle.capi.specs.declared.popping.Popped.TheVariants.{Packet, Nothing, TooS
 use Rattle.capi.specs.declared.telling.Info.{Info}
 use Rattle.capi.specs.declared.telling.TheConstants.{NO_INDEX}
 use Rattle.capi.specs.declared.feedback.Heard.{Heard}
+use Rattle.capi.specs.declared.looking.ProbeTold.{ProbeTold}
+use Rattle.capi.specs.declared.looking.ResultTold.{ResultTold}
+use Rattle.capi.specs.declared.looking.TheConstants.{NO_TIME}
 use Rattle.capi.specs.declared.looking.ShareTold.{ShareTold}
 use Rattle.send_core.specs.declared.call.Cause.{Cause}
 use Rattle.capi.specs.Codes.{code_of, cause_code, is_served, IfExhausted}
@@ -31,17 +36,30 @@ pub record Enqueues (before after : Serving) (at number : ℕ) (packet : List �
   pub reply : is_served outcome ≡ true → IfSome (class_named number) (λ c. (history : List Entry) → StandsFor before.steered history → outcome ≡ index_of (reply (served before.steered history) (Enqueue at c (bare packet))))
   pub stands : is_served outcome ≡ true → IfSome (class_named number) (λ c. Serves before.steered after.steered (Enqueue at c (bare packet)))
   pub kept : after.kept ≡ before.kept
+  pub findings : after.findings ≡ before.findings
   pub unserved : is_served outcome ≡ false → Stays before after
   pub size : MOST_BYTES < length packet → IfSome (class_named number) (λ c. outcome ≡ Err fault.BadSize)
   pub exhausted : IfErr outcome (λ e. IfExhausted e ((history : List Entry) → StandsFor before.steered history → is_exhausted history ≡ true))
+
+abbrev pub found_in : Option Finding → List Finding
+found_in None = []
+found_in (Some finding) = finding ∷ []
 
 -- the next packet was asked for, into this room
 pub record Pops (before after : Serving) (at : ℕ) (old new : List ℕ) (outcome : Result Popped Fault) : Type 0 where
   pub packet : IfOk outcome (λ p. (history : List Entry) → StandsFor before.steered history → IsFetched p (filled before.steered history at before.kept) after.kept old new)
   pub stands : OnOk outcome ((history : List Entry) (caller : ℕ) → IsUser caller → StandsFor before.steered history → StandsFor after.steered (popped before.steered history caller at before.kept))
   pub err : OnErr outcome (Stays before after × (new ≡ old))
+  pub findings : after.findings ≡ before.findings
   pub late : has_any before.kept ≡ false → GREATEST_MOMENT < at → outcome ≡ Err (fault.Refused cause.MomentTooLarge)
   pub exhausted : IfErr outcome (λ e. IfExhausted e ((history : List Entry) → StandsFor before.steered history → is_exhausted history ≡ true))
+
+-- what the last feedback told of the next packet was asked for
+pub record Finds (before after : Serving) (outcome : Option Finding) : Type 0 where
+  pub steered : after.steered ≡ before.steered
+  pub kept : after.kept ≡ before.kept
+  pub findings : before.findings ≡ found_in outcome ++ after.findings
+  pub none : outcome ≡ None → before.findings ≡ []
 
 -- ---- the numbers of outcomes, and what is written
 
@@ -123,6 +141,34 @@ share_in old (Ok None) = old
 share_in old (Err cause) = old
 
 -- 0 for a moment, 1 where there is none
+-- what was found, as C is told it
+abbrev pub finding_told : Finding → ResultTold
+finding_told (finding.Credited credit) = record {
+  number = credit.number;
+  sent_at = credit.sent_at;
+  arrival = credit.arrival;
+  size = credit.size;
+  cluster = index_told credit.cluster;
+  received = 1;
+}
+finding_told (finding.Missing n) = record { number = n; sent_at = NO_TIME; arrival = pos 0; size = 0; cluster = NO_INDEX; received = 0 }
+
+abbrev pub found_code : Option Finding → ℤ
+found_code None = pos 1
+found_code (Some finding) = pos 0
+
+abbrev pub found_told : ResultTold → Option Finding → ResultTold
+found_told old None = old
+found_told old (Some finding) = finding_told finding
+
+abbrev pub probe_code : Option ProbeTold → ℤ
+probe_code None = pos 1
+probe_code (Some told) = pos 0
+
+abbrev pub probe_in : ProbeTold → Option ProbeTold → ProbeTold
+probe_in old None = old
+probe_in old (Some told) = told
+
 abbrev pub moment_code : Option ℕ → ℤ
 moment_code None = pos 1
 moment_code (Some moment) = pos 0

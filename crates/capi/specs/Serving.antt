@@ -3,6 +3,7 @@ use Rattle.std.specs.Prelude.{◌≡◌, ◌==◌, ◌⊎◌, ℕ, ◌<◌, leng
 use Rattle.gcc_units.specs.declared.class.Class.{Class}
 use Rattle.gcc_units.specs.declared.class.Class.TheVariants as class
 use Rattle.pacer.specs.declared.sent.Sent.{Sent}
+use Rattle.sent_history.specs.declared.finding.Finding.{Finding}
 use Rattle.send_core.specs.declared.call.Call.{Call}
 use Rattle.send_core.specs.declared.call.Call.TheVariants.{Pace}
 use Rattle.send_core.specs.declared.call.Entry.{Entry}
@@ -22,10 +23,12 @@ use Rattle.steered_sender.specs.Standing.{Kept, StandsFor, served}
 abbrev pub Leaving : Type 0
 Leaving = Sent × List ℕ
 
--- the sender with its control, and the packets of its last pace that were not fetched yet
+-- the sender with its control, the packets of its last pace and what the last feedback told, of each those that were
+-- not fetched yet
 pub record Serving : Type 0 where
   pub steered : Kept
   pub kept : List Leaving
+  pub findings : List Finding
 
 -- those behind the first so many of the last pace
 abbrev pub kept_from : ℕ → List Sent → List (List ℕ) → List Leaving
@@ -47,6 +50,7 @@ Serves before after call = (history : List Entry) (caller : ℕ) → IsUser call
 pub record Stays (before after : Serving) : Type 0 where
   pub stands : (history : List Entry) → StandsFor before.steered history → StandsFor after.steered history ⊎ StandsFor after.steered (served before.steered history)
   pub kept : after.kept ≡ before.kept
+  pub findings : after.findings ≡ before.findings
 
 -- the packets that leave with a pace
 abbrev pub leaving : List Entry → ℕ → List Leaving

@@ -173,6 +173,7 @@ impl Sender {
         ensures reply { is_served result ≡ true → (history : List Entry) → StandsFor self.old.steered history → result ≡ answer_of (reply (served self.old.steered history) (call.Configure at change.now)) }
         ensures stands { is_served result ≡ true → Serves self.old.steered self.new.steered (call.Configure at change.now) }
         ensures kept { self.new.kept ≡ self.old.kept }
+        ensures findings { self.new.findings ≡ self.old.findings }
         ensures unserved { is_served result ≡ false → Stays self.old self.new }
         ensures exhausted { IfErr result (λ e. IfExhausted e ((history : List Entry) → StandsFor self.old.steered history → is_exhausted history ≡ true)) }
     {

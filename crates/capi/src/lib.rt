@@ -16,10 +16,13 @@ pub use changing::{Settings, StreamGiven};
 pub use controls::{START, control_named};
 pub use fault::Fault;
 pub use feedback::Heard;
-pub use looking::{NO_TIME, QueueTold, RatesTold, ShareTold, StatsTold, TotalTold};
+pub use looking::{
+    NO_TIME, ProbeTold, QueueTold, RatesTold, ResultTold, ShareTold, StatsTold, TotalTold,
+};
 pub use popping::Popped;
 pub use sender::Sender;
 pub use stamping::{place_in, stamp};
 pub use telling::{
-    Info, NO_INDEX, tell_done, tell_heard, tell_index, tell_moment, tell_popped, tell_share,
+    Info, NO_INDEX, tell_done, tell_found, tell_heard, tell_index, tell_moment, tell_popped,
+    tell_probe, tell_share,
 };

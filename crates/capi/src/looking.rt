@@ -5,12 +5,13 @@ ghost use Rattle.std.specs.Option.{option_map};
 ghost use Rattle.send_core.specs.declared.call.Entry.{Entry};
 ghost use Rattle.steered_sender.specs.Standing.{StandsFor};
 ghost use Rattle.capi.specs.declared.fault.Fault.TheVariants as fault;
-ghost use Rattle.capi.specs.Looking.{moment_told, rates_told, queue_told, total_told, stats_told, share_told, rates_after, queue_after, stats_after, share_after};
+ghost use Rattle.capi.specs.Looking.{moment_told, rates_told, queue_told, total_told, stats_told, share_told, probe_told, rates_after, queue_after, stats_after, share_after, probe_after};
 
 use crate::fault::Fault;
 use crate::sender::Sender;
 use gcc_units::Share;
 use live_sender::{Counters, Queue, Total};
+use probe_clusters::NextProbe;
 use send_core::Rates;
 use std::alloc::Global;
 
@@ -97,6 +98,34 @@ pub struct ShareTold {
     pub id: u32,
 }
 
+/// The probe cluster that packets are sent for next.
+#[repr(C)]
+#[derive(Clone, Copy)]
+pub struct ProbeTold {
+    /// Its planned rate, in bit/s.
+    pub rate: u64,
+    /// Its place among the clusters that were planned.
+    pub cluster: u32,
+}
+
+/// What a feedback told of a packet for the first time.
+#[repr(C)]
+#[derive(Clone, Copy)]
+pub struct ResultTold {
+    /// Its transport-wide number.
+    pub number: u64,
+    /// When it was sent, in microseconds; `NO_TIME` for one that is missing.
+    pub sent_at: u64,
+    /// When it arrived, in quarter-milliseconds of the receiver's clock; 0 for one that is missing.
+    pub arrival: i64,
+    /// Its bytes; 0 for one that is missing.
+    pub size: u32,
+    /// The cluster of a probe; else, and for one that is missing, `NO_INDEX`.
+    pub cluster: u32,
+    /// 1 where it was received, 0 where it is missing.
+    pub received: u32,
+}
+
 fn rates_told(rates: Rates) -> RatesTold
     ensures { result ≡ rates_told rates }
 {
@@ -170,6 +199,18 @@ fn share_told(share: Option<Share>) -> Option<ShareTold>
     }
 }
 
+fn probe_told(probe: Option<NextProbe>) -> Option<ProbeTold>
+    ensures { result ≡ option_map probe_told probe }
+{
+    match probe {
+        Some(probe) => Some(ProbeTold {
+            rate: probe.rate,
+            cluster: probe.id,
+        }),
+        None => None,
+    }
+}
+
 impl Sender {
     /// The rates after the last call.
     pub fn rates(&self) -> RatesTold
@@ -183,6 +224,13 @@ impl Sender {
         ensures { (history : List Entry) → StandsFor self.now.steered history → result ≡ queue_after history }
     {
         queue_told(self.steered.sender().queue())
+    }
+
+    /// The probe cluster that packets are sent for next, if one waits.
+    pub fn next_probe(&self) -> Option<ProbeTold>
+        ensures { (history : List Entry) → StandsFor self.now.steered history → result ≡ probe_after history }
+    {
+        probe_told(self.steered.sender().next_probe())
     }
 
     /// How many packets and reports there were.

@@ -73,6 +73,7 @@ impl Sender {
     // The next packet counts as fetched.
     fn advance(&mut self)
         ensures steered { self.new.steered ≡ self.old.steered }
+        ensures findings { self.new.findings ≡ self.old.findings }
         ensures kept { self.new.kept ≡ drop 1 self.old.kept }
     {
         if self.fetched < self.records.len() {
@@ -85,6 +86,7 @@ impl Sender {
     fn serve(&mut self, alloc: Global, at: u64) -> Result<(), Fault>
         ensures kept { OnOk result ((history : List Entry) → StandsFor self.old.steered history → self.new.kept ≡ leaving (served self.old.steered history) at) }
         ensures serves { OnOk result (Serves self.old.steered self.new.steered (call.Pace at)) }
+        ensures findings { self.new.findings ≡ self.old.findings }
         ensures err { OnErr result (Stays self.old self.new) }
         ensures late { GREATEST_MOMENT < at → result ≡ Err (fault.Refused cause.MomentTooLarge) }
         ensures exhausted { IfErr result (λ e. IfExhausted e ((history : List Entry) → StandsFor self.old.steered history → is_exhausted history ≡ true)) }
@@ -109,6 +111,7 @@ impl Sender {
     fn fill(&mut self, alloc: Global, at: u64) -> Result<(), Fault>
         ensures kept { OnOk result ((history : List Entry) → StandsFor self.old.steered history → self.new.kept ≡ filled self.old.steered history at self.old.kept) }
         ensures stands { OnOk result ((history : List Entry) (caller : ℕ) → IsUser caller → StandsFor self.old.steered history → StandsFor self.new.steered (popped self.old.steered history caller at self.old.kept)) }
+        ensures findings { self.new.findings ≡ self.old.findings }
         ensures err { OnErr result (Stays self.old self.new) }
         ensures late { has_any self.old.kept ≡ false → GREATEST_MOMENT < at → result ≡ Err (fault.Refused cause.MomentTooLarge) }
         ensures exhausted { IfErr result (λ e. IfExhausted e ((history : List Entry) → StandsFor self.old.steered history → is_exhausted history ≡ true)) }
@@ -122,6 +125,7 @@ impl Sender {
     // Hands out the next packet, if there is one and the room is large enough.
     fn fetch(&mut self, room: &mut [u8]) -> Popped
         ensures steered { self.new.steered ≡ self.old.steered }
+        ensures findings { self.new.findings ≡ self.old.findings }
         ensures packet { IsFetched result self.old.kept self.new.kept room.old room.new }
     {
         let Some((sent, wire)) = self.next() else {

@@ -16,6 +16,7 @@ use gcc_units::{Bytes, Class};
 use pacer::SentList;
 use rtp_wire::WireList;
 use send_core::Reply;
+use sent_history::FindingList;
 use std::alloc::Global;
 use std::marker::Model;
 use steered_sender::{Control, SteeredSender};
@@ -23,21 +24,27 @@ use steered_sender::{Control, SteeredSender};
 /// The greatest number of bytes that a call takes: no UDP packet has more.
 pub const MOST_BYTES: usize = 65_535;
 
-/// A sender with its control, and the packets of its last pace that were not fetched yet.
+/// A sender with its control, the packets of its last pace and what the last feedback told, of each those that
+/// were not fetched yet.
 #[derive(Drop)]
 pub struct Sender {
     pub(crate) steered: SteeredSender,
     pub(crate) records: SentList,
     pub(crate) wires: WireList,
     pub(crate) fetched: u32,
+    pub(crate) findings: FindingList,
+    pub(crate) told: u32,
 }
 
 impl Model for Sender {
+    ghost use Rattle.std.specs.Prelude.{drop, length, ◌≤◌};
     ghost use Rattle.capi.specs.Serving.{Serving, kept_from};
 
     ghost Value = { Serving };
 
-    ghost view = { λ s. record { steered = s.steered; kept = kept_from s.fetched s.records.items s.wires.items } };
+    ghost view = { λ s. record { steered = s.steered; kept = kept_from s.fetched s.records.items s.wires.items; findings = drop s.told s.findings.items } };
+
+    ghost invariant = { λ s. s.told ≤ length s.findings.items };
 }
 
 /// The class of this number: 0 audio, 1 retransmission, 2 video, 3 forward error correction.
@@ -83,6 +90,7 @@ impl Sender {
         ensures stands { IfOk result (λ s. StandsFor s.steered (first control)) }
         ensures control { IfOk result (λ s. began_at s.steered.steering ≡ start_of control) }
         ensures kept { IfOk result (λ s. s.kept ≡ []) }
+        ensures findings { IfOk result (λ s. s.findings ≡ []) }
         ensures err { IfErr result (λ e. e ≡ fault.NoMemory) }
     {
         let Ok(steered) = SteeredSender::new(alloc, control) else {
@@ -93,6 +101,8 @@ impl Sender {
             records: SentList::new(alloc),
             wires: WireList::new(alloc),
             fetched: 0,
+            findings: FindingList::new(alloc),
+            told: 0,
         })
     }
 

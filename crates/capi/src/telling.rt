@@ -1,14 +1,15 @@
 //! What C is told of an outcome.
 
 ghost use Rattle.std.specs.Prelude.{◌≡◌};
-ghost use Rattle.capi.specs.Outcomes.{code_in, told_in, popped_code, size_in, index_told, kind_told, cluster_told, info_told, info_in, told_code, heard_code, place_in, share_code, share_in, moment_code, moment_in};
+ghost use Rattle.capi.specs.Outcomes.{code_in, told_in, popped_code, size_in, index_told, kind_told, cluster_told, info_told, info_in, told_code, heard_code, place_in, share_code, share_in, finding_told, found_code, found_told, probe_code, probe_in, moment_code, moment_in};
 
 use crate::fault::Fault;
 use crate::feedback::Heard;
-use crate::looking::ShareTold;
+use crate::looking::{NO_TIME, ProbeTold, ResultTold, ShareTold};
 use crate::popping::Popped;
 use pacer::{Kind, Sent};
 use send_core::Cause;
+use sent_history::Finding;
 
 /// The index of a packet that is none of the accepted ones, and the cluster of one that is of none.
 pub const NO_INDEX: u32 = 0xffff_ffff;
@@ -142,6 +143,57 @@ pub fn tell_share(outcome: Result<Option<ShareTold>, Fault>, share: &mut ShareTo
         }
         Ok(None) => 1,
         Err(fault) => fault.code(),
+    }
+}
+
+fn finding_told(finding: Finding) -> ResultTold
+    ensures { result ≡ finding_told finding }
+{
+    match finding {
+        Finding::Credited(credit) => ResultTold {
+            number: credit.number,
+            sent_at: credit.sent_at,
+            arrival: credit.arrival,
+            size: credit.size,
+            cluster: index_told(credit.cluster),
+            received: 1,
+        },
+        Finding::Missing(number) => ResultTold {
+            number,
+            sent_at: NO_TIME,
+            arrival: 0,
+            size: 0,
+            cluster: NO_INDEX,
+            received: 0,
+        },
+    }
+}
+
+/// Writes what was told of a packet: 0, or 1 where nothing is left.
+pub fn tell_found(outcome: Option<Finding>, found: &mut ResultTold) -> i32
+    ensures code { result ≡ found_code outcome }
+    ensures found { found.new ≡ found_told found.old outcome }
+{
+    match outcome {
+        None => 1,
+        Some(finding) => {
+            *found = finding_told(finding);
+            0
+        }
+    }
+}
+
+/// Writes a probe cluster: 0, or 1 where there is none.
+pub fn tell_probe(told: Option<ProbeTold>, probe: &mut ProbeTold) -> i32
+    ensures code { result ≡ probe_code told }
+    ensures probe { probe.new ≡ probe_in probe.old told }
+{
+    match told {
+        None => 1,
+        Some(told) => {
+            *probe = told;
+            0
+        }
     }
 }
 

@@ -19,11 +19,13 @@ holds live alloc ptr held = ffalse
 abbrev pub held_coded : Coded (Option the_row.Denot)
 held_coded = coded_option the_row.coded
 
--- a new sender that this control steers: it stands for what the control asks for first, and has no packets
+-- a new sender that this control steers: it stands for what the control asks for first, and has no packets and was
+-- told of none
 pub record IsNew (sender : the_row.Denot) (control : Control) : Type 0 where
   pub stands : StandsFor sender.steered (first control)
   pub began : began_at sender.steered.steering ≡ start_of control
   pub kept : sender.kept ≡ []
+  pub findings : sender.findings ≡ []
 
 -- there is a sender, of which this holds
 abbrev pub HoldsOne : Option the_row.Denot → (the_row.Denot → Type 0) → Type 0

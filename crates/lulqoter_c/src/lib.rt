@@ -8,22 +8,24 @@ ghost use Rattle.capi.specs.declared.fault.Fault.{Fault};
 ghost use Rattle.capi.specs.declared.popping.Popped.{Popped};
 ghost use Rattle.capi.specs.declared.fault.Fault.TheVariants as fault;
 ghost use Rattle.capi.specs.declared.feedback.Heard.{Heard};
+ghost use Rattle.capi.specs.declared.looking.ProbeTold.{ProbeTold};
 ghost use Rattle.capi.specs.declared.looking.ShareTold.{ShareTold};
 ghost use Rattle.send_core.specs.declared.call.Entry.{Entry};
+ghost use Rattle.sent_history.specs.declared.finding.Finding.{Finding};
 ghost use Rattle.capi.specs.Changing.{Configures};
 ghost use Rattle.capi.specs.Controls.{control_named};
 ghost use Rattle.capi.specs.Hearing.{Hears};
-ghost use Rattle.capi.specs.Looking.{IsNextTime, rates_after, queue_after, stats_after, share_after};
-ghost use Rattle.capi.specs.Outcomes.{Enqueues, Pops, code_in, told_in, popped_code, size_in, info_in, heard_code, place_in, share_code, share_in, moment_code, moment_in};
+ghost use Rattle.capi.specs.Looking.{IsNextTime, rates_after, queue_after, stats_after, share_after, probe_after};
+ghost use Rattle.capi.specs.Outcomes.{Enqueues, Pops, code_in, told_in, popped_code, size_in, info_in, heard_code, place_in, share_code, share_in, found_code, found_told, probe_code, probe_in, Finds, moment_code, moment_in};
 ghost use Rattle.capi.specs.Stamping.{Places, Stamps};
 ghost use Rattle.lulqoter_c.specs.Holds.{HoldsOne, IsNew};
 
 mod handle;
 
 use capi::{
-    Fault, Info, QueueTold, RatesTold, Sender, Settings, ShareTold, StatsTold, StreamGiven,
-    control_named, place_in, stamp, tell_done, tell_heard, tell_index, tell_moment, tell_popped,
-    tell_share,
+    Fault, Info, ProbeTold, QueueTold, RatesTold, ResultTold, Sender, Settings, ShareTold,
+    StatsTold, StreamGiven, control_named, place_in, stamp, tell_done, tell_found, tell_heard,
+    tell_index, tell_moment, tell_popped, tell_probe, tell_share,
 };
 use handle::Handle;
 use std::alloc::Global;
@@ -31,10 +33,10 @@ use std::mem::replace;
 use steered_sender::Control;
 
 /// What a header must have been written for: the number of this interface.
-const ABI: u32 = 3;
+const ABI: u32 = 4;
 
 /// The version: 100 times the major number, and the minor one.
-const VERSION: u32 = 4;
+const VERSION: u32 = 5;
 
 // Takes the sender out of a handle, if there is one.
 fn take(alloc: Global, sender: &mut Handle) -> Option<Box<Sender>>
@@ -178,6 +180,25 @@ pub extern "C" fn lulq_sender_feedback(
     tell_heard(outcome, place)
 }
 
+/// Tells what the last feedback told of the next packet. 0 and the packet's number; 1 where all was told;
+/// or -1 where there is no sender.
+#[unsafe(no_mangle)]
+pub extern "C" fn lulq_sender_next_result(
+    alloc: Global,
+    sender: &mut Handle,
+    told: &mut ResultTold,
+) -> i32
+    ensures closed { sender.old.held ≡ None → (result ≡ negsuc 0) × (sender.new.held ≡ None) × (told.new ≡ told.old) }
+    ensures served { IfSome sender.old.held (λ s. HoldsOne sender.new.held (λ t. (outcome : Option Finding) × Finds s t outcome × (result ≡ found_code outcome) × (told.new ≡ found_told told.old outcome))) }
+{
+    let Some(mut held) = take(alloc, sender) else {
+        return Fault::NotOpen.code();
+    };
+    let outcome = held.next_result();
+    *sender = Handle::of(held);
+    tell_found(outcome, told)
+}
+
 /// Changes the settings that the mask names, and sets and removes streams. 0, or the number of the
 /// cause.
 #[unsafe(no_mangle)]
@@ -236,6 +257,26 @@ pub extern "C" fn lulq_sender_queue(
     *queue = held.queue();
     *sender = Handle::of(held);
     0
+}
+
+/// Writes the probe cluster that packets are sent for next. 0, or 1 where none waits, or -1 where there is
+/// no sender.
+#[unsafe(no_mangle)]
+pub extern "C" fn lulq_sender_next_probe(
+    alloc: Global,
+    sender: &mut Handle,
+    probe: &mut ProbeTold,
+) -> i32
+    ensures stays { sender.new.held ≡ sender.old.held }
+    ensures closed { sender.old.held ≡ None → (result ≡ negsuc 0) × (probe.new ≡ probe.old) }
+    ensures told { IfSome sender.old.held (λ s. (told : Option ProbeTold) × ((history : List Entry) → StandsFor s.steered history → told ≡ probe_after history) × (result ≡ probe_code told) × (probe.new ≡ probe_in probe.old told)) }
+{
+    let Some(held) = take(alloc, sender) else {
+        return Fault::NotOpen.code();
+    };
+    let told = held.next_probe();
+    *sender = Handle::of(held);
+    tell_probe(told, probe)
 }
 
 /// Writes how many packets and reports there were. 0, or -1 where there is no sender.

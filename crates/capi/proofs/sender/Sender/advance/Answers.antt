@@ -1,4 +1,4 @@
-use Rattle.std.proofs.Common.{◌∙◌, ap, arith, drop, List}
+use Rattle.std.proofs.Common.{◌∙◌, ap, arith, drop}
 use Rattle.capi.specs.Serving.{Serving}
 use Rattle.capi.proofs.Kept.{kept-next, kept-past}
 use Rattle.capi.proofs.sender.Sender.advance.Goals as goal
